@@ -1,0 +1,43 @@
+-- Laws of the definitions, module by module; then the theorems.
+
+-- ---- systems of numbered states
+
+pub mod Below
+pub mod Lex
+pub mod Walk
+pub mod System
+-- The marked set is the smallest; what shows that a set is the marked one.
+pub mod Marked
+-- How a loop finds the marked set.
+pub mod Closure
+pub mod Height
+-- Sheets: sound, complete, and their test.
+pub mod Sheet
+pub mod Trail
+pub mod ClosedWalk
+pub mod Labels
+pub mod Replay
+-- Our trail and our closed walks are the least.
+pub mod Least
+-- Evidence and verdict: just one kind.
+pub mod Verdict
+-- Small systems, computed.
+pub mod Examples
+-- ---- clocks
+
+pub mod Lists
+pub mod Pointwise
+-- The tests of regions and states say what 01 means by them.
+pub mod Region
+-- The bench's cases on regions, computed.
+pub mod RegionExamples
+-- Some shift rounds all entry times of a run well.
+pub mod Shift
+-- Widened runs round to exact ones along the same edges when (K + 1) * e < D.
+pub mod Rounding
+-- Exact runs are widened runs.
+pub mod Widen
+-- Exact runs stay in a set that is closed under time and jump: such a set covers slight drift.
+pub mod Stay
+-- The bound is sharp.
+pub mod Sharp

@@ -1,0 +1,169 @@
+//! Reading a model: all numbers are spelled out first, then each is held
+//! against the range that the numbers before it give.
+
+pub struct Plan {
+    pub clocks: usize,
+    pub ceiling: u32,
+    pub start: usize,
+    pub forbidden: Vec<bool>,
+    pub limits: Vec<Vec<u32>>,
+    pub edges: Vec<PlanEdge>,
+}
+
+pub struct PlanEdge {
+    pub from: usize,
+    pub to: usize,
+    pub resets: Vec<bool>,
+    pub guard: Vec<(u32, u32)>,
+}
+
+/// The numbers that bytes spell, and the refusal that stands after the last
+/// of them if the bytes do not end there.
+pub struct Spelled {
+    pub numbers: Vec<u32>,
+    pub broken: Option<u8>,
+}
+
+pub fn spelled(bytes: &[u8]) -> Spelled {
+    let mut numbers = Vec::new();
+    let mut rest = bytes;
+    while !rest.is_empty() {
+        let Some(last) = rest.iter().take(3).position(|&byte| byte < 128) else {
+            let broken = if rest.len() < 3 { 1 } else { 2 };
+            return Spelled {
+                numbers,
+                broken: Some(broken),
+            };
+        };
+        let digits = rest[..=last].iter().rev();
+        numbers.push(digits.fold(0, |value, &byte| value * 128 + u32::from(byte % 128)));
+        rest = &rest[last + 1..];
+    }
+    Spelled {
+        numbers,
+        broken: None,
+    }
+}
+
+impl Spelled {
+    pub fn get(&self, index: usize) -> Result<u32, u8> {
+        self.numbers
+            .get(index)
+            .copied()
+            .ok_or(self.broken.unwrap_or(1))
+    }
+
+    pub fn ends_at(&self, index: usize) -> bool {
+        self.numbers.len() == index && self.broken.is_none()
+    }
+}
+
+/// Least and greatest value of the number after these, and the refusal for
+/// one outside; none after the last number of a model.
+fn expected(before: &[u32]) -> Option<(u32, u32, u8)> {
+    let header = [(1, 1), (1, 3), (1, 4), (1, 8), (0, 24)];
+    let at = before.len();
+    if at < 5 {
+        return Some((header[at].0, header[at].1, 3));
+    }
+    let (clocks, ceiling, locations, edges) =
+        (before[1] as usize, before[2], before[3], before[4] as usize);
+    if at == 5 {
+        return Some((0, locations - 1, 3));
+    }
+    let at = at - 6;
+    let all_locations = locations as usize * (1 + clocks);
+    if at < all_locations {
+        let most = if at.is_multiple_of(1 + clocks) {
+            1
+        } else {
+            ceiling + 1
+        };
+        return Some((0, most, 4));
+    }
+    let at = at - all_locations;
+    if at == edges * (3 + 2 * clocks) {
+        return None;
+    }
+    Some(match at % (3 + 2 * clocks) {
+        0 | 1 => (0, locations - 1, 5),
+        2 => (0, 2u32.pow(clocks as u32) - 1, 5),
+        low if low % 2 == 1 => (0, ceiling, 5),
+        _ => (before[before.len() - 1], ceiling, 5),
+    })
+}
+
+pub fn read(bytes: &[u8]) -> Result<Plan, u8> {
+    let spelled = spelled(bytes);
+    let mut length = 0;
+    while let Some((least, greatest, refusal)) = expected(&spelled.numbers[..length]) {
+        let number = spelled.get(length)?;
+        if number < least || number > greatest {
+            return Err(refusal);
+        }
+        length += 1;
+    }
+    if !spelled.ends_at(length) {
+        return Err(6);
+    }
+    let plan = plan_of(&spelled.numbers);
+    if (0..plan.clocks).any(|clock| plan.walks_without_reset(clock)) {
+        return Err(7);
+    }
+    Ok(plan)
+}
+
+fn plan_of(numbers: &[u32]) -> Plan {
+    let (clocks, ceiling, locations) = (numbers[1] as usize, numbers[2], numbers[3] as usize);
+    let (drawn, edges) = numbers[6..].split_at(locations * (1 + clocks));
+    Plan {
+        clocks,
+        ceiling,
+        start: numbers[5] as usize,
+        forbidden: drawn
+            .chunks(1 + clocks)
+            .map(|location| location[0] == 1)
+            .collect(),
+        limits: drawn
+            .chunks(1 + clocks)
+            .map(|location| {
+                location[1..]
+                    .iter()
+                    .map(|&s| s.checked_sub(1).unwrap_or(ceiling))
+                    .collect()
+            })
+            .collect(),
+        edges: edges
+            .chunks(3 + 2 * clocks)
+            .map(|edge| PlanEdge {
+                from: edge[0] as usize,
+                to: edge[1] as usize,
+                resets: (0..clocks)
+                    .map(|clock| edge[2] / 2u32.pow(clock as u32) % 2 == 1)
+                    .collect(),
+                guard: edge[3..].chunks(2).map(|pair| (pair[0], pair[1])).collect(),
+            })
+            .collect(),
+    }
+}
+
+impl Plan {
+    /// Whether some location comes back to itself along edges that do not
+    /// reset the clock. A shortest such walk is no longer than the number of
+    /// locations.
+    fn walks_without_reset(&self, clock: usize) -> bool {
+        let locations = self.forbidden.len();
+        (0..locations).any(|home| {
+            let mut here = vec![home];
+            (0..locations).any(|_| {
+                here = self
+                    .edges
+                    .iter()
+                    .filter(|edge| here.contains(&edge.from) && !edge.resets[clock])
+                    .map(|edge| edge.to)
+                    .collect();
+                here.contains(&home)
+            })
+        })
+    }
+}

@@ -1,0 +1,258 @@
+//! Models before they become bytes: sizes, random drawings, and variations of
+//! a loop that only drift can leave.
+
+use crate::generate::Class;
+use crate::model::read_model;
+use crate::numbers::{push_padded, shortest};
+use crate::random::Random;
+use crate::regions::Regions;
+
+/// The size of a model.
+#[derive(Clone, Copy, Debug)]
+pub struct Shape {
+    pub clocks: usize,
+    pub ceiling: u32,
+    pub locations: usize,
+}
+
+impl Shape {
+    pub fn states(&self) -> usize {
+        self.locations * Regions::of(self.clocks, self.ceiling as u8).count()
+    }
+
+    /// Room for a loop that only drift can leave: two clocks to play against
+    /// each other, the two locations of the loop, and one to reach.
+    pub fn has_room_for_drift(&self) -> bool {
+        self.clocks >= 2 && self.locations >= 3
+    }
+}
+
+/// One of the sizes that are wanted, if there is one.
+pub fn pick_shape(random: &mut Random, wanted: impl Fn(&Shape) -> bool) -> Option<Shape> {
+    let mut shapes = Vec::new();
+    for clocks in 1..=3 {
+        for ceiling in 1..=4 {
+            for locations in 1..=8 {
+                let shape = Shape {
+                    clocks,
+                    ceiling,
+                    locations,
+                };
+                if wanted(&shape) {
+                    shapes.push(shape);
+                }
+            }
+        }
+    }
+    (!shapes.is_empty()).then(|| *random.pick(&shapes))
+}
+
+/// A model before it becomes bytes, in the numbers that stand in the bytes.
+#[derive(Clone, Debug)]
+pub struct Draft {
+    pub clocks: usize,
+    pub ceiling: u32,
+    pub start: usize,
+    pub kinds: Vec<u32>,
+    pub stays: Vec<Vec<u32>>,
+    pub edges: Vec<DraftEdge>,
+}
+
+#[derive(Clone, Debug)]
+pub struct DraftEdge {
+    pub from: usize,
+    pub to: usize,
+    pub mask: u32,
+    pub guard: Vec<(u32, u32)>,
+}
+
+impl Draft {
+    pub fn new(shape: &Shape) -> Draft {
+        Draft {
+            clocks: shape.clocks,
+            ceiling: shape.ceiling,
+            start: 0,
+            kinds: vec![0; shape.locations],
+            stays: vec![vec![0; shape.clocks]; shape.locations],
+            edges: Vec::new(),
+        }
+    }
+
+    pub fn numbers(&self) -> Vec<u32> {
+        let header = [
+            1,
+            self.clocks as u32,
+            self.ceiling,
+            self.kinds.len() as u32,
+            self.edges.len() as u32,
+        ];
+        let mut numbers = header.to_vec();
+        numbers.push(self.start as u32);
+        for (kind, stays) in self.kinds.iter().zip(&self.stays) {
+            numbers.push(*kind);
+            numbers.extend(stays);
+        }
+        for edge in &self.edges {
+            numbers.extend([edge.from as u32, edge.to as u32, edge.mask]);
+            numbers.extend(edge.guard.iter().flat_map(|&(low, high)| [low, high]));
+        }
+        numbers
+    }
+
+    pub fn bytes(&self) -> Vec<u8> {
+        shortest(&self.numbers())
+    }
+
+    pub fn all_clocks(&self) -> u32 {
+        (1 << self.clocks) - 1
+    }
+
+    /// An edge without guard.
+    pub fn open_edge(&self, from: usize, to: usize, mask: u32) -> DraftEdge {
+        DraftEdge {
+            from,
+            to,
+            mask,
+            guard: vec![(0, self.ceiling); self.clocks],
+        }
+    }
+
+    /// Adds random edges, as far as the limit of 24 allows. One that would
+    /// close a walk with a clock unreset resets all clocks instead.
+    fn add_random_edges(&mut self, random: &mut Random, count: usize) {
+        for _ in 0..count {
+            if self.edges.len() == 24 {
+                return;
+            }
+            let locations = self.kinds.len();
+            let mask = random.below(1 << self.clocks) as u32;
+            let mut edge = self.open_edge(random.below(locations), random.below(locations), mask);
+            for bounds in &mut edge.guard {
+                if random.one_in(2) {
+                    let low = random.range(0, self.ceiling as usize);
+                    *bounds = (low as u32, random.range(low, self.ceiling as usize) as u32);
+                }
+            }
+            self.edges.push(edge);
+            if read_model(&self.bytes()).is_err() {
+                self.edges.last_mut().expect("just added").mask = self.all_clocks();
+            }
+        }
+    }
+
+    /// Spells some invariants in other ways, and narrows some if asked to.
+    fn vary_stays(&mut self, random: &mut Random, narrow: bool) {
+        for stay in self.stays.iter_mut().flatten() {
+            if random.one_in(4) {
+                *stay = self.ceiling + 1;
+            }
+            if narrow && random.one_in(6) {
+                *stay = random.range(0, self.ceiling as usize + 1) as u32;
+            }
+        }
+    }
+}
+
+/// Spellings of random lengths, with one padded number at least.
+pub fn padded(random: &mut Random, numbers: &[u32]) -> Vec<u8> {
+    let mut bytes = Vec::new();
+    let sure = random.below(numbers.len());
+    for (index, &number) in numbers.iter().enumerate() {
+        let length = if index == sure {
+            random.range(2, 3)
+        } else {
+            random.range(1, 3)
+        };
+        push_padded(&mut bytes, number, length);
+    }
+    bytes
+}
+
+/// A variation of the loop that only drift can leave. Between its two
+/// locations one clock is reset on the way there, another on the way back,
+/// and both must stay within one period; perfect clocks keep their distance,
+/// drifting clocks lose it little by little. With `noise`, edges and
+/// invariants are added that may spoil this.
+pub fn loop_draft(random: &mut Random, shape: &Shape, class: Class, noise: bool) -> Draft {
+    let mut draft = Draft::new(shape);
+    let ceiling = shape.ceiling;
+    let mut places: Vec<usize> = (0..shape.locations).collect();
+    random.shuffle(&mut places);
+    let mut clocks: Vec<usize> = (0..shape.clocks).collect();
+    random.shuffle(&mut clocks);
+    let (one, other) = (clocks[0], clocks[1]);
+    let (there, back, goal) = (places[0], places[1], places[2]);
+    let mut spare = places.split_off(3);
+    let period = random.range(1, ceiling as usize) as u32;
+
+    // A third clock is reset on one way at least.
+    let third = clocks.get(2).map_or(0, |clock| 1u32 << clock);
+    let resets = random.range(1, 3) as u32;
+    let third_there = third * (resets & 1);
+    let third_back = third * (resets >> 1);
+
+    let mut go = draft.open_edge(there, back, 1 << one | third_there);
+    go.guard[one].1 = period;
+    let mut come = draft.open_edge(back, there, 1 << other | third_back);
+    come.guard[other] = (
+        period,
+        random.range(period as usize, ceiling as usize) as u32,
+    );
+    let mut leave = draft.open_edge(back, goal, random.below(1 << shape.clocks) as u32);
+    leave.guard[other].0 = period;
+    leave.guard[one].1 = if class == Class::Plain {
+        random.range(0, period as usize) as u32
+    } else {
+        0
+    };
+    draft.kinds[goal] = u32::from(class != Class::Safe || random.one_in(4));
+
+    draft.start = back;
+    if random.one_in(2) {
+        if let Some(entry) = spare.pop() {
+            // Enter the loop with the distance k between the clocks.
+            let k = random.range(1, period as usize) as u32;
+            let mut enter = draft.open_edge(entry, there, 1 << other);
+            enter.guard[one] = (k, k);
+            enter.guard[other] = (k, k);
+            draft.edges.push(enter);
+            draft.start = entry;
+        }
+    }
+    if random.one_in(2) {
+        if let Some(middle) = spare.pop() {
+            // A longer way to the goal.
+            draft
+                .edges
+                .push(draft.open_edge(middle, goal, random.below(1 << shape.clocks) as u32));
+            leave.to = middle;
+        }
+    }
+    draft.edges.extend([go, come, leave]);
+    if class == Class::Safe && !spare.is_empty() {
+        draft.kinds[*random.pick(&spare)] = 1;
+    }
+    if noise {
+        // Mostly a few edges, sometimes many.
+        let most = if random.one_in(3) { 20 } else { 4 };
+        let count = random.below(most);
+        draft.add_random_edges(random, count);
+    }
+    draft.vary_stays(random, noise);
+    random.shuffle(&mut draft.edges);
+    draft
+}
+
+/// A random drawing in which each closed walk resets each clock.
+pub fn random_draft(random: &mut Random, shape: &Shape) -> Draft {
+    let mut draft = Draft::new(shape);
+    draft.start = random.below(shape.locations);
+    for place in 0..shape.locations {
+        let rarely = if place == draft.start { 16 } else { 4 };
+        draft.kinds[place] = u32::from(random.one_in(rarely));
+    }
+    let count = random.range(0, (3 * shape.locations).min(24));
+    draft.add_random_edges(random, count);
+    draft.vary_stays(random, true);
+    draft
+}

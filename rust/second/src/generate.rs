@@ -1,0 +1,407 @@
+//! Generated models: deterministic in the seed and the kind.
+//!
+//! Accepted models come from two families: variations of a loop of two
+//! locations that only drift can leave, and random drawings. A model of a
+//! wanted class (safe, unsafe only by drift, unsafe with perfect clocks) is
+//! found by drawing until the class fits, with a sure drawing at the end.
+
+use crate::calls::states_of;
+use crate::components::Components;
+use crate::draft::{loop_draft, padded, pick_shape, random_draft, Draft, Shape};
+use crate::graph::Graph;
+use crate::marking::{is_unsafe, reached, Closure};
+use crate::model::{read_model, Model};
+use crate::numbers::{shortest, LARGEST};
+use crate::random::Random;
+use crate::refusal::Refusal;
+use std::collections::BTreeMap;
+
+/// The kinds that `generate` knows.
+pub const KINDS: [&str; 20] = [
+    "safe",
+    "drift",
+    "plain",
+    "padded",
+    "tiny",
+    "small",
+    "middle",
+    "largest",
+    "clocks-1",
+    "clocks-2",
+    "clocks-3",
+    "refused-1",
+    "refused-2",
+    "refused-3",
+    "refused-4",
+    "refused-5",
+    "refused-6",
+    "refused-7",
+    "refused-8",
+    "noise",
+];
+
+/// What an accepted model is.
+#[derive(Clone, Copy, Debug, PartialEq, Eq, PartialOrd, Ord)]
+pub enum Class {
+    Safe,
+    /// A forbidden location needs a touch step: unsafe only by drift.
+    Drift,
+    /// Unsafe with perfect clocks: time and jump steps are enough.
+    Plain,
+    /// Needs a face step, but no touch. Closed guards leave no such model.
+    Face,
+}
+
+pub fn classify(model: &Model) -> Class {
+    let graph = Graph::new(model.clone());
+    let components = Components::new(&graph);
+    let unsafe_by = |face, touch| {
+        is_unsafe(
+            &graph,
+            &reached(&graph, &components, Closure { face, touch }),
+        )
+    };
+    if !unsafe_by(true, true) {
+        Class::Safe
+    } else if unsafe_by(false, false) {
+        Class::Plain
+    } else if unsafe_by(true, false) {
+        Class::Face
+    } else {
+        Class::Drift
+    }
+}
+
+/// The bytes of a model of a kind; none for an unknown kind.
+pub fn generate(seed: u64, kind: &str) -> Option<Vec<u8>> {
+    let mut random = Random::with_word(seed, kind);
+    let random = &mut random;
+    Some(match kind {
+        "safe" => accepted(random, Some(Class::Safe), usual).bytes(),
+        "drift" => accepted(random, Some(Class::Drift), usual).bytes(),
+        "plain" => accepted(random, Some(Class::Plain), usual).bytes(),
+        "padded" => {
+            let numbers = accepted(random, None, usual).numbers();
+            padded(random, &numbers)
+        }
+        "tiny" => accepted(random, None, |shape| shape.states() <= TINY).bytes(),
+        "small" => accepted(random, None, |shape| {
+            (TINY + 1..=SMALL).contains(&shape.states())
+        })
+        .bytes(),
+        "middle" => accepted(random, None, |shape| {
+            (SMALL + 1..=MIDDLE).contains(&shape.states())
+        })
+        .bytes(),
+        "largest" => accepted(random, None, |shape| shape.states() == LARGEST_STATES).bytes(),
+        "clocks-1" => accepted(random, None, |shape| shape.clocks == 1).bytes(),
+        "clocks-2" => accepted(random, None, |shape| shape.clocks == 2).bytes(),
+        "clocks-3" => accepted(random, None, |shape| shape.clocks == 3 && usual(shape)).bytes(),
+        "refused-1" => cut(random),
+        "refused-2" => too_long(random),
+        "refused-3" => out_of_range(random, 3),
+        "refused-4" => out_of_range(random, 4),
+        "refused-5" => out_of_range(random, 5),
+        "refused-6" => extended(random),
+        "refused-7" => {
+            let shape = pick_shape(random, |_| true)?;
+            unreset(random, &shape).bytes()
+        }
+        "refused-8" => accepted(random, None, |shape| shape.states() > MIDDLE).bytes(),
+        "noise" => noise(random),
+        _ => return None,
+    })
+}
+
+/// The bytes of an accepted model of exactly this size. A class that needs
+/// more room (drift needs two clocks and three locations) becomes `Plain`.
+pub fn generate_sized(
+    seed: u64,
+    clocks: usize,
+    ceiling: u32,
+    locations: usize,
+    class: Class,
+) -> Vec<u8> {
+    let mut random = Random::with_word(seed, "sized");
+    accepted(&mut random, Some(class), |shape| {
+        (shape.clocks, shape.ceiling, shape.locations) == (clocks, ceiling, locations)
+    })
+    .bytes()
+}
+
+/// Sizes by number of states. The scratch of the programs reaches to MIDDLE.
+pub const TINY: usize = 40;
+pub const SMALL: usize = 160;
+pub const MIDDLE: usize = 4_000;
+pub const LARGEST_STATES: usize = 8 * 1_977;
+
+/// Sizes of models whose kind does not name a size.
+fn usual(shape: &Shape) -> bool {
+    shape.states() <= MIDDLE
+}
+
+/// An accepted model of a shape and a class; of a random class if none is
+/// named.
+fn accepted(random: &mut Random, class: Option<Class>, wanted: impl Fn(&Shape) -> bool) -> Draft {
+    let mut class =
+        class.unwrap_or_else(|| *random.pick(&[Class::Safe, Class::Drift, Class::Plain]));
+    let room = |shape: &Shape| wanted(shape) && shape.has_room_for_drift();
+    let mut shape = pick_shape(random, &wanted).expect("a size that there is");
+    if class == Class::Drift {
+        match pick_shape(random, room) {
+            Some(roomy) => shape = roomy,
+            None => class = Class::Plain, // one clock does not drift away
+        }
+    }
+    for attempt in 0..24 {
+        let draft = if shape.has_room_for_drift() && (class == Class::Drift || random.one_in(2)) {
+            loop_draft(random, &shape, class, attempt < 12)
+        } else {
+            random_draft(random, &shape)
+        };
+        let model = read_model(&draft.bytes()).expect("drafts are accepted");
+        if classify(&model) == class {
+            return draft;
+        }
+    }
+    match class {
+        Class::Drift => loop_draft(random, &shape, class, false),
+        _ => {
+            let mut draft = Draft::new(&shape);
+            draft.kinds[0] = u32::from(class == Class::Plain);
+            draft
+        }
+    }
+}
+
+/// A draft to damage: of any size, since refusals 1 to 7 come before 8.
+fn any_draft(random: &mut Random) -> Draft {
+    let shape = pick_shape(random, |shape| {
+        shape.states() <= SMALL || shape.locations == 8
+    })
+    .expect("a size that there is");
+    if shape.has_room_for_drift() && random.one_in(2) {
+        loop_draft(random, &shape, Class::Drift, true)
+    } else {
+        random_draft(random, &shape)
+    }
+}
+
+/// Refusal 1: an accepted model, cut.
+fn cut(random: &mut Random) -> Vec<u8> {
+    let numbers = any_draft(random).numbers();
+    let mut bytes = if random.one_in(2) {
+        padded(random, &numbers)
+    } else {
+        shortest(&numbers)
+    };
+    bytes.truncate(random.below(bytes.len()));
+    bytes
+}
+
+/// Refusal 2: one number goes on after its third byte.
+fn too_long(random: &mut Random) -> Vec<u8> {
+    let numbers = any_draft(random).numbers();
+    let at = random.below(numbers.len());
+    let mut bytes = shortest(&numbers[..at]);
+    bytes.extend([
+        numbers[at] as u8 | 128,
+        128 + random.below(128) as u8,
+        128 + random.below(128) as u8,
+    ]);
+    push_rest(random, &mut bytes, &numbers[at + 1..]);
+    bytes
+}
+
+/// The refusal and the greatest value of each number of a model, in order.
+fn fields(draft: &Draft) -> Vec<(Refusal, u32)> {
+    let last_location = draft.kinds.len() as u32 - 1;
+    let mut fields = [1, 3, 4, 8, 24, last_location]
+        .map(|most| (3, most))
+        .to_vec();
+    for _ in &draft.kinds {
+        fields.push((4, 1));
+        fields.extend(vec![(4, draft.ceiling + 1); draft.clocks]);
+    }
+    for _ in &draft.edges {
+        fields.extend([last_location, last_location, draft.all_clocks()].map(|most| (5, most)));
+        fields.extend(vec![(5, draft.ceiling); 2 * draft.clocks]);
+    }
+    fields
+}
+
+/// Refusals 3, 4, 5: one number out of its range, or a low above its high.
+fn out_of_range(random: &mut Random, refusal: Refusal) -> Vec<u8> {
+    let mut draft = any_draft(random);
+    if draft.edges.is_empty() {
+        let edge = draft.open_edge(0, 0, draft.all_clocks());
+        draft.edges.push(edge);
+    }
+    let mut numbers = draft.numbers();
+    let fields = fields(&draft);
+    let places: Vec<usize> = (0..fields.len())
+        .filter(|&at| fields[at].0 == refusal)
+        .collect();
+    let mut place = *random.pick(&places);
+    let most = fields[place].1;
+    if refusal == 5 && random.one_in(4) {
+        // A low above its high, both within range.
+        let edge = random.below(draft.edges.len());
+        let low = places[edge * (3 + 2 * draft.clocks) + 3 + 2 * random.below(draft.clocks)];
+        numbers[low] = random.range(1, draft.ceiling as usize) as u32;
+        place = low + 1;
+        numbers[place] = random.below(numbers[low] as usize) as u32;
+    } else if place < 4 && random.one_in(3) {
+        numbers[place] = 0;
+    } else if random.one_in(2) {
+        numbers[place] = most + 1;
+    } else {
+        numbers[place] = random.range(most as usize + 1, LARGEST as usize) as u32;
+    }
+    let mut bytes = shortest(&numbers[..=place]);
+    push_rest(random, &mut bytes, &numbers[place + 1..]);
+    bytes
+}
+
+/// Appends what follows a damaged number: as it was, or damaged too, which
+/// must make no difference.
+fn push_rest(random: &mut Random, bytes: &mut Vec<u8>, rest: &[u32]) {
+    let mut rest = shortest(rest);
+    match random.below(4) {
+        0 => rest.truncate(random.below(rest.len() + 1)),
+        1 => rest
+            .iter_mut()
+            .for_each(|byte| *byte = random.below(256) as u8),
+        2 => rest.extend([255; 3]),
+        _ => {}
+    }
+    bytes.extend(rest);
+}
+
+/// Refusal 6: bytes after a model that might else be refused by 7.
+fn extended(random: &mut Random) -> Vec<u8> {
+    let mut draft = any_draft(random);
+    if random.one_in(3) {
+        let shape = Shape {
+            clocks: draft.clocks,
+            ceiling: draft.ceiling,
+            locations: draft.kinds.len(),
+        };
+        draft = unreset(random, &shape);
+    }
+    let mut bytes = draft.bytes();
+    for _ in 0..random.range(1, 4) {
+        bytes.push(random.below(256) as u8);
+    }
+    bytes
+}
+
+/// Refusal 7: a closed walk of edges with a clock that none of them resets.
+fn unreset(random: &mut Random, shape: &Shape) -> Draft {
+    let mut draft = random_draft(random, shape);
+    let clock = random.below(shape.clocks);
+    let length = random.range(1, 4.min(shape.locations));
+    draft.edges.truncate(24 - length);
+    let mut places: Vec<usize> = (0..shape.locations).collect();
+    random.shuffle(&mut places);
+    for at in 0..length {
+        let mask = random.below(1 << shape.clocks) as u32 & !(1 << clock);
+        let edge = draft.open_edge(places[at], places[(at + 1) % length], mask);
+        draft.edges.push(edge);
+    }
+    random.shuffle(&mut draft.edges);
+    draft
+}
+
+/// Bytes that only look a little like a model.
+fn noise(random: &mut Random) -> Vec<u8> {
+    let mut bytes = Vec::new();
+    if random.one_in(4) {
+        let length = random.below(40);
+        bytes.extend((0..length).map(|_| random.below(256) as u8));
+    } else {
+        let header = [
+            1,
+            random.range(1, 3),
+            random.range(1, 4),
+            random.range(1, 3),
+            random.range(0, 3),
+            0,
+        ];
+        bytes.extend(header.map(|number| number as u8));
+        let length = random.below(60);
+        bytes.extend((0..length).map(|_| random.below(3) as u8));
+    }
+    bytes
+}
+
+/// Shares of kinds, classes, refusals and sizes among `count` models, whose
+/// seeds are 0, 1, 2, ... and whose kinds take turns.
+pub fn shares(count: usize) -> String {
+    let mut kinds: BTreeMap<&str, usize> = BTreeMap::new();
+    let mut refusals: BTreeMap<Refusal, usize> = BTreeMap::new();
+    let mut classes: BTreeMap<Class, usize> = BTreeMap::new();
+    let mut clocks: BTreeMap<usize, usize> = BTreeMap::new();
+    let mut sizes: BTreeMap<usize, usize> = BTreeMap::new();
+    let mut too_large = 0;
+    for seed in 0..count {
+        let kind = KINDS[seed % KINDS.len()];
+        *kinds.entry(kind).or_default() += 1;
+        match read_model(&generate(seed as u64, kind).expect("a known kind")) {
+            Ok(model) => {
+                *classes.entry(classify(&model)).or_default() += 1;
+                *clocks.entry(model.clocks).or_default() += 1;
+                let states = states_of(&model);
+                let size = [TINY, SMALL, MIDDLE]
+                    .into_iter()
+                    .find(|&size| states <= size);
+                *sizes.entry(size.unwrap_or(LARGEST_STATES)).or_default() += 1;
+                too_large += usize::from(states > MIDDLE);
+            }
+            Err(refusal) => *refusals.entry(refusal).or_default() += 1,
+        }
+    }
+    let accepted: usize = classes.values().sum();
+    let share = |part: usize, whole: usize| {
+        format!("{part} {:.1}%", 100.0 * part as f64 / whole.max(1) as f64)
+    };
+    let mut lines = format!("models {count}\n");
+    for kind in KINDS {
+        lines += &format!(
+            "kind {kind} {}\n",
+            share(kinds.get(kind).copied().unwrap_or(0), count)
+        );
+    }
+    for (refusal, number) in &refusals {
+        lines += &format!("refused {refusal} {}\n", share(*number, count));
+    }
+    lines += &format!(
+        "refused 8 at scratch {MIDDLE} {}\n",
+        share(too_large, count)
+    );
+    lines += &format!("accepted {}\n", share(accepted, count));
+    for (class, number) in &classes {
+        lines += &format!("accepted {} {}\n", class.word(), share(*number, accepted));
+    }
+    for (clocks, number) in &clocks {
+        lines += &format!("accepted clocks {clocks} {}\n", share(*number, accepted));
+    }
+    for (size, number) in &sizes {
+        lines += &format!(
+            "accepted states up to {size} {}\n",
+            share(*number, accepted)
+        );
+    }
+    lines
+}
+
+impl Class {
+    pub fn word(self) -> &'static str {
+        match self {
+            Class::Safe => "safe",
+            Class::Drift => "unsafe only by drift",
+            Class::Plain => "unsafe with perfect clocks",
+            Class::Face => "unsafe by a face step",
+        }
+    }
+}

@@ -1,0 +1,33 @@
+//! A second drift checker for timed automata, written from document 01 alone.
+//!
+//! The modules follow the order of that document: numbers, models, regions,
+//! steps, the marked set, evidence, calls. `brute` does everything again by
+//! naive definitions, `generate` and `mutate` make inputs for comparisons.
+
+// Loops over clocks and states index several lists at once.
+#![allow(clippy::needless_range_loop)]
+
+pub mod bench;
+pub mod brute;
+pub mod calls;
+pub mod check;
+pub mod components;
+pub mod draft;
+pub mod generate;
+pub mod graph;
+pub mod marking;
+pub mod model;
+pub mod mutate;
+pub mod numbers;
+pub mod program;
+pub mod random;
+pub mod refusal;
+pub mod regions;
+pub mod sheet;
+pub mod trail;
+pub mod widened;
+
+pub use calls::{check_evidence, judge, marks, write_evidence, Judgement};
+pub use model::{read_model, Edge, Location, Model};
+pub use numbers::number_at;
+pub use refusal::Refusal;

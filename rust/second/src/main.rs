@@ -1,0 +1,153 @@
+//! The command. Answers, refusals too, go to standard output with status 0;
+//! wrong arguments and unreadable files go to standard error with status 2.
+
+use second::bench::bench;
+use second::calls::{check_evidence, marks};
+use second::generate::{generate, shares, KINDS};
+use second::mutate;
+use second::program::{bytes_of_text, evidence_bytes, judge_lines, refusal_line, OUTPUT, SCRATCH};
+use second::regions::Regions;
+use std::io::{Read, Write};
+use std::process::ExitCode;
+
+const USAGE: &str = "\
+second judge FILE|- [SCRATCH]            three lines, or the refusal line
+second evidence FILE|- [SCRATCH]         evidence bytes, or the refusal line
+second marks FILE|- [SCRATCH]            one byte per state, 1 or 0, or the refusal line
+second check MODEL EVIDENCE [SCRATCH]    passes 1, passes 2, or the refusal line
+second regions                           checksums of all region tables
+second generate SEED KIND                a model's bytes
+second generate --kinds                  the kinds
+second generate --shares [COUNT]         shares of kinds, classes and refusals
+second mutate SEED MODEL EVIDENCE [KIND] changed evidence
+second mutate --kinds                    the kinds of change
+second bench                             timings
+
+A file whose name ends in .plan holds bytes as text; - is standard input.
+--scratch N and --output N change the lengths lent (4000 and 65536).
+";
+
+fn main() -> ExitCode {
+    match run(std::env::args().skip(1).collect()) {
+        Ok(bytes) => {
+            // A reader that went away is no failure of this program.
+            let _ = std::io::stdout().write_all(&bytes);
+            ExitCode::SUCCESS
+        }
+        Err(message) => {
+            eprintln!("{message}");
+            ExitCode::from(2)
+        }
+    }
+}
+
+fn run(mut arguments: Vec<String>) -> Result<Vec<u8>, String> {
+    let mut scratch = take_flag(&mut arguments, "--scratch")?.unwrap_or(SCRATCH);
+    let output = take_flag(&mut arguments, "--output")?.unwrap_or(OUTPUT);
+    let words: Vec<&str> = arguments.iter().map(String::as_str).collect();
+    // A last argument may give the scratch length too.
+    let words = match words.as_slice() {
+        [command @ ("judge" | "evidence" | "marks"), file, length] => {
+            scratch = number(length)?;
+            vec![*command, *file]
+        }
+        ["check", model, evidence, length] => {
+            scratch = number(length)?;
+            vec!["check", *model, *evidence]
+        }
+        _ => words,
+    };
+    match words.as_slice() {
+        ["judge", file] => Ok(judge_lines(&read(file)?, scratch, output).into_bytes()),
+        ["evidence", file] => Ok(evidence_bytes(&read(file)?, scratch, output)),
+        ["marks", file] => {
+            let mut out = vec![0; output];
+            Ok(match marks(&read(file)?, [scratch; 4], &mut out) {
+                Ok(states) => out[..states].to_vec(),
+                Err(refusal) => refusal_line(refusal).into_bytes(),
+            })
+        }
+        ["check", model, evidence] => {
+            Ok(
+                match check_evidence(&read(model)?, &read(evidence)?, [scratch; 4]) {
+                    Ok(passes) => format!("passes {passes}\n"),
+                    Err(refusal) => refusal_line(refusal),
+                }
+                .into_bytes(),
+            )
+        }
+        ["regions"] => Ok(region_lines().into_bytes()),
+        ["generate", "--kinds"] => Ok(KINDS.map(|kind| format!("{kind}\n")).concat().into_bytes()),
+        ["generate", "--shares"] => Ok(shares(1_000).into_bytes()),
+        ["generate", "--shares", count] => Ok(shares(number(count)?).into_bytes()),
+        ["generate", seed, kind] => generate(number(seed)? as u64, kind)
+            .ok_or(format!("no kind {kind}; see generate --kinds")),
+        ["mutate", "--kinds"] => Ok(mutate::KINDS
+            .map(|(kind, what)| format!("{kind}: {what}\n"))
+            .concat()
+            .into_bytes()),
+        ["mutate", seed, model, evidence] => {
+            Ok(mutate::mutate(number(seed)? as u64, &read(model)?, &read(evidence)?).1)
+        }
+        ["mutate", seed, model, evidence, kind] => {
+            mutate::mutate_as(number(seed)? as u64, kind, &read(model)?, &read(evidence)?).ok_or(
+                format!("the change {kind} does not apply; see mutate --kinds"),
+            )
+        }
+        ["bench"] => {
+            bench(|line| println!("{line}"));
+            Ok(Vec::new())
+        }
+        _ => Err(USAGE.to_string()),
+    }
+}
+
+/// Takes a flag and its value out of the arguments.
+fn take_flag(arguments: &mut Vec<String>, flag: &str) -> Result<Option<usize>, String> {
+    let Some(at) = arguments.iter().position(|argument| argument == flag) else {
+        return Ok(None);
+    };
+    let value = arguments
+        .get(at + 1)
+        .ok_or(format!("{flag} needs a number"))?;
+    let value = number(value)?;
+    arguments.drain(at..at + 2);
+    Ok(Some(value))
+}
+
+fn number(word: &str) -> Result<usize, String> {
+    word.parse().map_err(|_| format!("not a number: {word}"))
+}
+
+fn read(file: &str) -> Result<Vec<u8>, String> {
+    if file == "-" {
+        let mut bytes = Vec::new();
+        std::io::stdin()
+            .read_to_end(&mut bytes)
+            .map_err(|error| error.to_string())?;
+        return Ok(bytes);
+    }
+    let bytes = std::fs::read(file).map_err(|error| format!("{file}: {error}"))?;
+    if file.ends_with(".plan") {
+        let text = String::from_utf8(bytes).map_err(|_| format!("{file}: not text"))?;
+        return bytes_of_text(&text).map_err(|error| format!("{file}: {error}"));
+    }
+    Ok(bytes)
+}
+
+/// One line per number of clocks and ceiling: clocks, ceiling, count, and the
+/// checksums of successors, corners, faces and near regions.
+fn region_lines() -> String {
+    let mut lines = String::new();
+    for clocks in 1..=3 {
+        for ceiling in 1..=4 {
+            let table = Regions::of(clocks, ceiling);
+            let [successors, corners, faces, near] = table.checksums();
+            lines += &format!(
+                "{clocks} {ceiling} {} {successors} {corners} {faces} {near}\n",
+                table.count()
+            );
+        }
+    }
+    lines
+}

@@ -1,0 +1,156 @@
+//! The marked set, and the distance of each state from a forbidden location.
+//!
+//! Touch partners are found through the corners: a corner of a location is
+//! noted once, and leads at once to all states there that have this corner.
+
+use crate::components::Components;
+use crate::graph::{Graph, Reversed};
+use crate::regions::{point_number, POINTS};
+
+pub const UNREACHED: u32 = u32::MAX;
+
+/// Which steps to close under, besides time and jump.
+#[derive(Clone, Copy, Debug, PartialEq, Eq)]
+pub struct Closure {
+    pub face: bool,
+    pub touch: bool,
+}
+
+/// The steps of the marked set.
+pub const ALL_STEPS: Closure = Closure {
+    face: true,
+    touch: true,
+};
+
+/// The smallest set with the start that is closed under the chosen steps.
+pub fn reached(graph: &Graph, components: &Components, closure: Closure) -> Vec<bool> {
+    let regions = graph.regions;
+    let mut marked = vec![false; graph.states()];
+    let mut noted = CornerNotes::new(graph);
+    let mut waiting = vec![graph.start];
+    marked[graph.start] = true;
+    let mut found = Vec::new();
+    while let Some(state) = waiting.pop() {
+        found.extend(graph.steps(state).iter().map(|step| step.to as usize));
+        let base = graph.base_of(state);
+        let region = graph.region_of(state);
+        if closure.face {
+            found.extend(regions.faces[region].iter().map(|face| base + face));
+        }
+        if closure.touch {
+            noted.for_new_corners(graph, state, |near| {
+                if components.on_cycle[near] {
+                    found.push(near);
+                }
+            });
+        }
+        for next in found.drain(..) {
+            if graph.allowed[next] && !marked[next] {
+                marked[next] = true;
+                waiting.push(next);
+            }
+        }
+    }
+    marked
+}
+
+/// The marked set of document 01.
+pub fn marked_set(graph: &Graph, components: &Components) -> Vec<bool> {
+    reached(graph, components, ALL_STEPS)
+}
+
+/// Whether a forbidden location is among the marked states.
+pub fn is_unsafe(graph: &Graph, marked: &[bool]) -> bool {
+    (0..graph.states()).any(|state| marked[state] && graph.is_forbidden(state))
+}
+
+/// For each allowed state the fewest steps of all four kinds to a forbidden
+/// location, by a breadth-first search backward.
+pub fn distance_to_forbidden(
+    graph: &Graph,
+    components: &Components,
+    reversed: &Reversed,
+) -> Vec<u32> {
+    let regions = graph.regions;
+    let mut distance = vec![UNREACHED; graph.states()];
+    let mut noted = CornerNotes::new(graph);
+    let mut queue: Vec<usize> = (0..graph.states())
+        .filter(|&state| graph.allowed[state] && graph.is_forbidden(state))
+        .collect();
+    for &state in &queue {
+        distance[state] = 0;
+    }
+    let mut at = 0;
+    let mut found = Vec::new();
+    while at < queue.len() {
+        let state = queue[at];
+        at += 1;
+        found.extend(reversed.sources(state).iter().map(|&from| from as usize));
+        let base = graph.base_of(state);
+        found.extend(
+            regions.cofaces[graph.region_of(state)]
+                .iter()
+                .map(|coface| base + coface),
+        );
+        if components.on_cycle[state] {
+            // Every state with one of these corners can touch this one.
+            noted.for_new_corners(graph, state, |near| found.push(near));
+        }
+        for previous in found.drain(..) {
+            if graph.allowed[previous] && distance[previous] == UNREACHED {
+                distance[previous] = distance[state] + 1;
+                queue.push(previous);
+            }
+        }
+    }
+    distance
+}
+
+/// The corners already seen, per location.
+pub struct CornerNotes {
+    seen: Vec<bool>,
+}
+
+impl CornerNotes {
+    pub fn new(graph: &Graph) -> CornerNotes {
+        CornerNotes {
+            seen: vec![false; graph.model.locations.len() * POINTS],
+        }
+    }
+
+    /// Notes the corners of a state; for each new one, hands out all states
+    /// of the location that have it.
+    pub fn for_new_corners(
+        &mut self,
+        graph: &Graph,
+        state: usize,
+        mut hand_out: impl FnMut(usize),
+    ) {
+        let regions = graph.regions;
+        let base = graph.base_of(state);
+        for corner in &regions.corners[graph.region_of(state)] {
+            let point = point_number(corner);
+            let seen = &mut self.seen[graph.location_of(state) * POINTS + point];
+            if !*seen {
+                *seen = true;
+                for region in &regions.at_corner[point] {
+                    hand_out(base + region);
+                }
+            }
+        }
+    }
+
+    /// Notes the corners of a state.
+    pub fn note(&mut self, graph: &Graph, state: usize) {
+        for corner in &graph.regions.corners[graph.region_of(state)] {
+            self.seen[graph.location_of(state) * POINTS + point_number(corner)] = true;
+        }
+    }
+
+    /// Whether some corner of the state has been noted in its location.
+    pub fn has_any(&self, graph: &Graph, state: usize) -> bool {
+        graph.regions.corners[graph.region_of(state)]
+            .iter()
+            .any(|corner| self.seen[graph.location_of(state) * POINTS + point_number(corner)])
+    }
+}

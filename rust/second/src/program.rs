@@ -1,0 +1,71 @@
+//! The two programs of document 01, and the text form of byte files.
+
+use crate::calls::{judge_and_write, write_evidence, Judgement};
+use crate::refusal::Refusal;
+
+/// What the programs lend unless told otherwise.
+pub const SCRATCH: usize = 4_000;
+pub const OUTPUT: usize = 65_536;
+
+/// The three lines, or the refusal line. The output is lent for the evidence
+/// here too, so evidence that is longer gives 9.
+pub fn judge_lines(model: &[u8], scratch: usize, output: usize) -> String {
+    match judge_and_write(model, [scratch; 4], &mut vec![0; output]) {
+        Ok((judgement, _)) => three_lines(&judgement),
+        Err(refusal) => refusal_line(refusal),
+    }
+}
+
+fn three_lines(judgement: &Judgement) -> String {
+    let (verdict, counted) = if judgement.is_unsafe {
+        ("unsafe", "steps")
+    } else {
+        ("safe", "in")
+    };
+    format!(
+        "verdict {verdict}\nstates {}\n{counted} {}\n",
+        judgement.states, judgement.count
+    )
+}
+
+pub fn refusal_line(refusal: Refusal) -> String {
+    format!("refused {refusal}\n")
+}
+
+/// The evidence bytes, or the refusal line.
+pub fn evidence_bytes(model: &[u8], scratch: usize, output: usize) -> Vec<u8> {
+    let mut out = vec![0; output];
+    match write_evidence(model, [scratch; 4], &mut out) {
+        Ok((_, written)) => {
+            out.truncate(written);
+            out
+        }
+        Err(refusal) => refusal_line(refusal).into_bytes(),
+    }
+}
+
+/// Reads the text form of bytes: numbers below 256, set apart by commas,
+/// semicolons or white space; # begins a comment that ends with its line.
+pub fn bytes_of_text(text: &str) -> Result<Vec<u8>, String> {
+    text.lines()
+        .flat_map(|line| {
+            let line = line.split('#').next().unwrap_or("");
+            line.split(|c: char| c == ',' || c == ';' || c.is_whitespace())
+        })
+        .filter(|word| !word.is_empty())
+        .map(|word| word.parse().map_err(|_| format!("not a byte: {word}")))
+        .collect()
+}
+
+#[cfg(test)]
+mod tests {
+    use super::*;
+
+    #[test]
+    fn text_form() {
+        let text = "1,2; 3 # four, 4\n\t255,;0\n#\n";
+        assert_eq!(bytes_of_text(text), Ok(vec![1, 2, 3, 255, 0]));
+        assert!(bytes_of_text("256").is_err());
+        assert!(bytes_of_text("1,x").is_err());
+    }
+}

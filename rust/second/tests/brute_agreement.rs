@@ -1,0 +1,226 @@
+//! The plain route and the brute-force route give the same answers.
+
+mod common;
+
+use common::*;
+use second::brute::regions::NaiveRegions;
+use second::brute::trails::{least_of_all, least_trail, least_walk};
+use second::brute::Brute;
+use second::generate::generate;
+use second::mutate::mutate;
+use second::numbers::push_padded;
+use second::random::Random;
+use second::regions::Regions;
+use second::{judge, marks, read_model};
+
+/// Holds everything about a model against the brute-force route; true if the
+/// model is accepted.
+fn compare(model: &[u8], seed: u64, changes: u64) -> bool {
+    let brute = match Brute::new(model) {
+        Ok(brute) => brute,
+        Err(refusal) => {
+            assert_eq!(read_model(model), Err(refusal), "{model:?}");
+            assert_eq!(judge(model, ENOUGH), Err(refusal));
+            assert_eq!(check(model, &[]), Err(refusal));
+            return false;
+        }
+    };
+    let states = brute.states.list.len();
+    let marked = brute.states.marked();
+    let judgement = judge(model, [states; 4]).expect("accepted by both");
+    assert_eq!(judge(model, [states - 1; 4]), Err(8));
+    assert_eq!(judgement.states, states);
+    assert_eq!(judgement.is_unsafe, brute.is_unsafe(), "{model:?}");
+    let mut out = vec![9; states];
+    assert_eq!(marks(model, ENOUGH, &mut out), Ok(states));
+    assert_eq!(
+        out,
+        marked
+            .iter()
+            .map(|&mark| u8::from(mark))
+            .collect::<Vec<u8>>(),
+        "{model:?}"
+    );
+
+    let ours = evidence(model);
+    assert_eq!(ours, brute.evidence(), "{model:?}");
+    let count = if judgement.is_unsafe {
+        least_trail(&brute.states).len()
+    } else {
+        out.iter().map(|&b| b as usize).sum()
+    };
+    assert_eq!(judgement.count, count);
+
+    let passes = if judgement.is_unsafe { 2 } else { 1 };
+    assert_eq!(check(model, &ours), Ok(passes), "{model:?}");
+    assert_eq!(brute.check(&ours), Ok(passes), "{model:?}");
+    for change in 0..changes {
+        let (kind, mut other) = mutate(seed * 1_000 + change, model, &ours);
+        assert_eq!(
+            check(model, &other),
+            brute.check(&other),
+            "{kind} {model:?} {other:?}"
+        );
+        // A second change on top of the first.
+        if change % 2 == 0 {
+            other = mutate(seed * 1_000 + change + 500, model, &other).1;
+            assert_eq!(
+                check(model, &other),
+                brute.check(&other),
+                "{model:?} {other:?}"
+            );
+        }
+    }
+    true
+}
+
+/// Generates models of a kind and compares all of them.
+fn compare_kind(kind: &str, seeds: std::ops::Range<u64>, changes: u64) -> usize {
+    seeds
+        .filter(|&seed| compare(&generate(seed, kind).unwrap(), seed, changes))
+        .count()
+}
+
+#[test]
+fn tiny_models() {
+    assert_eq!(compare_kind("tiny", 0..2_500, 16), 2_500);
+}
+
+#[test]
+fn small_models() {
+    assert_eq!(compare_kind("small", 0..2_500, 12), 2_500);
+}
+
+#[test]
+fn some_middle_models() {
+    let mut compared = 0;
+    for seed in 0..150 {
+        let model = generate(seed, "middle").unwrap();
+        if judge(&model, ENOUGH).unwrap().states <= 700 {
+            compare(&model, seed, 12);
+            compared += 1;
+        }
+    }
+    assert!(compared >= 30);
+}
+
+#[test]
+fn the_loop_plan() {
+    assert!(compare(&LOOP, 0, 400));
+}
+
+#[test]
+fn damaged_models() {
+    for kind in [
+        "refused-1",
+        "refused-2",
+        "refused-3",
+        "refused-4",
+        "refused-5",
+        "refused-6",
+        "refused-7",
+    ] {
+        assert_eq!(compare_kind(kind, 0..300, 0), 0);
+    }
+}
+
+#[test]
+fn padded_tiny_models() {
+    for seed in 0..200 {
+        let mut random = Random::new(seed);
+        let mut padded = Vec::new();
+        // Every number of a small model is one byte.
+        for byte in generate(seed, "tiny").unwrap() {
+            push_padded(&mut padded, byte.into(), random.range(1, 3));
+        }
+        assert!(compare(&padded, seed, 4));
+    }
+}
+
+#[test]
+fn noise() {
+    for seed in 0..1_500 {
+        let model = generate(seed, "noise").unwrap();
+        // Larger ones are left to the plain route alone.
+        let states = judge(&model, ENOUGH).map_or(0, |judgement| judgement.states);
+        if states <= 160 {
+            compare(&model, seed, 2);
+        }
+    }
+}
+
+/// On tiny models all trails, and all walks of the touches, are looked at.
+#[test]
+fn all_trails_of_tiny_models() {
+    const MOST: usize = 1_000_000;
+    let mut trails = 0;
+    let mut with_touch = 0;
+    let mut walks = 0;
+    for seed in 0..1_200 {
+        let model = generate(seed, "tiny").unwrap();
+        let brute = Brute::new(&model).unwrap();
+        let states = &brute.states;
+        if brute.is_unsafe() {
+            let is_end = |state| states.forbidden[state];
+            if let Some(trail) = least_of_all(states, states.start, 0, 0..4, &is_end, MOST) {
+                assert_eq!(trail, least_trail(states), "{model:?}");
+                trails += 1;
+                with_touch += usize::from(trail.iter().any(|label| label.kind == 3));
+            }
+        }
+        for home in (0..states.list.len())
+            .filter(|&state| states.walk[state][state])
+            .step_by(5)
+        {
+            let is_end = |state| state == home;
+            if let Some(walk) = least_of_all(states, home, 1, 0..2, &is_end, MOST) {
+                assert_eq!(walk, least_walk(states, home), "{model:?}");
+                walks += 1;
+            }
+        }
+    }
+    println!("all trails of {trails} models, {with_touch} with a touch, and {walks} walks");
+    assert!(trails >= 400 && with_touch >= 100 && walks >= 500);
+}
+
+/// The region tables of both routes, for all clocks and ceilings.
+#[test]
+fn region_tables() {
+    for clocks in 1..=3 {
+        for ceiling in 1..=4 {
+            compare_tables(clocks, ceiling);
+        }
+    }
+}
+
+fn compare_tables(clocks: usize, ceiling: u8) {
+    let plain = Regions::of(clocks, ceiling);
+    let naive = NaiveRegions::of(clocks, ceiling.into());
+    assert_eq!(plain.count(), naive.list.len());
+    let numbers = |list: &[u8]| {
+        list[..clocks]
+            .iter()
+            .map(|&number| u32::from(number))
+            .collect::<Vec<u32>>()
+    };
+    for one in 0..plain.count() {
+        let region = &plain.list[one];
+        assert_eq!(
+            (numbers(&region.whole), numbers(&region.rank)),
+            naive.list[one]
+        );
+        assert_eq!(plain.successor[one], naive.after_time(one, ceiling.into()));
+        let corners = plain.corners[one]
+            .iter()
+            .map(|corner| numbers(corner))
+            .collect();
+        assert_eq!(naive.corners[one], corners);
+        let indices = |row: &[bool]| {
+            (0..row.len())
+                .filter(|&other| row[other])
+                .collect::<Vec<usize>>()
+        };
+        assert_eq!(plain.faces[one], indices(&naive.is_face[one]));
+        assert_eq!(plain.near(one), indices(&naive.shares[one]));
+    }
+}

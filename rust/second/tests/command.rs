@@ -1,0 +1,135 @@
+//! The command, run as a program.
+
+mod common;
+
+use common::*;
+use std::io::Write;
+use std::process::{Command, Output, Stdio};
+
+fn second(arguments: &[&str], input: &[u8]) -> Output {
+    let mut child = Command::new(env!("CARGO_BIN_EXE_second"))
+        .args(arguments)
+        .stdin(Stdio::piped())
+        .stdout(Stdio::piped())
+        .stderr(Stdio::piped())
+        .spawn()
+        .unwrap();
+    // A command that reads no input may be gone before all is written.
+    let _ = child.stdin.take().unwrap().write_all(input);
+    child.wait_with_output().unwrap()
+}
+
+fn answer(arguments: &[&str], input: &[u8]) -> Vec<u8> {
+    let output = second(arguments, input);
+    assert_eq!(output.status.code(), Some(0), "{arguments:?}");
+    output.stdout
+}
+
+/// A file of the given name in the tests' own directory.
+fn file(name: &str, bytes: &[u8]) -> String {
+    let path = std::path::Path::new(env!("CARGO_TARGET_TMPDIR")).join(name);
+    std::fs::write(&path, bytes).unwrap();
+    path.to_str().unwrap().to_string()
+}
+
+#[test]
+fn judge_and_evidence() {
+    assert_eq!(
+        answer(&["judge", "-"], &LOOP),
+        b"verdict unsafe\nstates 132\nsteps 8\n"
+    );
+    assert_eq!(
+        answer(&["judge", "-"], &ROW),
+        b"verdict safe\nstates 3\nin 3\n"
+    );
+    assert_eq!(answer(&["judge", "-"], &LOOP[..10]), b"refused 1\n");
+    assert_eq!(answer(&["judge", "-", "131"], &LOOP), b"refused 8\n");
+    assert_eq!(
+        answer(&["judge", "-", "--scratch", "131"], &LOOP),
+        b"refused 8\n"
+    );
+    assert_eq!(
+        answer(&["judge", "-", "--output", "3"], &ROW),
+        b"refused 9\n"
+    );
+    assert_eq!(answer(&["evidence", "-"], &LOOP), evidence(&LOOP));
+    assert_eq!(answer(&["evidence", "-", "2"], &ROW), b"refused 8\n");
+    assert_eq!(answer(&["marks", "-"], &TWO), [1, 1, 1, 0, 0, 1]);
+}
+
+#[test]
+fn more_states_than_the_scratch() {
+    let three_locations = [1, 3, 4, 3, 0, 0, 0, 0, 0, 0, 0, 0, 0, 0, 0, 0, 0, 0];
+    assert_eq!(answer(&["judge", "-"], &three_locations), b"refused 8\n");
+    let lines = answer(&["judge", "-", "5931"], &three_locations);
+    assert!(lines.starts_with(b"verdict safe\nstates 5931\n"));
+}
+
+#[test]
+fn check_files() {
+    let model = file(
+        "loop.plan",
+        b"1,2,2,4,4,0; 0,0,0; 0,0,0; 0,0,0; 1,0,0 # locations
+        0,1,2,1,1,1,1; 1,2,1,0,2,0,2
+        2,1,2,0,2,2,2; 2,3,0,0,0,2,2",
+    );
+    let trail = file("loop.trail", &LOOP_TRAIL);
+    let short = file("loop.short", &LOOP_TRAIL[..33]);
+    assert_eq!(answer(&["check", &model, &trail], &[]), b"passes 2\n");
+    assert_eq!(answer(&["check", &model, &short], &[]), b"refused 1\n");
+    assert_eq!(
+        answer(&["check", &model, &trail, "131"], &[]),
+        b"refused 8\n"
+    );
+    assert_eq!(answer(&["check", "-", &trail], &LOOP), b"passes 2\n");
+    let padded = answer(&["mutate", "1", &model, &trail, "pad"], &[]);
+    assert_eq!(check(&LOOP, &padded), Ok(2));
+}
+
+#[test]
+fn generated_models() {
+    let kinds = String::from_utf8(answer(&["generate", "--kinds"], &[])).unwrap();
+    for kind in kinds.lines() {
+        assert_eq!(
+            answer(&["generate", "3", kind], &[]),
+            second::generate::generate(3, kind).unwrap()
+        );
+    }
+}
+
+#[test]
+fn region_lines() {
+    let lines = String::from_utf8(answer(&["regions"], &[])).unwrap();
+    assert_eq!(lines.lines().count(), 12);
+    // One clock, ceiling 1: regions 0, the interval, 1, by hand. Successors
+    // 1, 2, none; corners 0; 0 1; 1; faces of the interval 0, 2; near 0 1; 0 1 2; 1 2.
+    let sum = |values: &[u64]| {
+        values
+            .iter()
+            .fold(0, |acc, v| (acc * 31 + v + 1) % 1_000_003)
+    };
+    let by_hand = [
+        sum(&[1, 2, 3]),
+        sum(&[0, 0, 1, 1]),
+        sum(&[0, 2]),
+        sum(&[0, 1, 0, 1, 2, 1, 2]),
+    ];
+    let [a, b, c, d] = by_hand;
+    assert_eq!(
+        lines.lines().next(),
+        Some(format!("1 1 3 {a} {b} {c} {d}").as_str())
+    );
+}
+
+#[test]
+fn wrong_arguments() {
+    for arguments in [
+        &["judge"][..],
+        &["judge", "no such file"],
+        &["generate", "1", "x"],
+        &[],
+        &["judge", "-", "x"],
+    ] {
+        assert_eq!(second(arguments, &[]).status.code(), Some(2));
+    }
+}

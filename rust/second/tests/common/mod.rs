@@ -1,0 +1,38 @@
+//! What several test programs use.
+#![allow(dead_code)]
+
+/// Enough scratch for every model.
+pub const ENOUGH: [usize; 4] = [15_816; 4];
+
+/// The loop plan of "Plans on the bench".
+pub const LOOP: [u8; 46] = [
+    1, 2, 2, 4, 4, 0, //
+    0, 0, 0, 0, 0, 0, 0, 0, 0, 1, 0, 0, //
+    0, 1, 2, 1, 1, 1, 1, //
+    1, 2, 1, 0, 2, 0, 2, //
+    2, 1, 2, 0, 2, 2, 2, //
+    2, 3, 0, 0, 0, 2, 2,
+];
+
+/// Its passing trail of "Plans on the bench", perhaps not ours.
+pub const LOOP_TRAIL: [u8; 34] = [
+    2, 8, 0, 0, 1, 0, 0, 1, 1, 3, 0, 1, 0, 1, 10, 0, 0, 1, 2, 0, 0, 0, 0, 0, 0, 1, 1, 2, 0, 2, 0,
+    0, 1, 3,
+];
+
+/// One clock, ceiling 1, one location: three states in a row.
+pub const ROW: [u8; 8] = [1, 1, 1, 1, 0, 0, 0, 0];
+
+/// One clock, ceiling 1, two locations with an edge at 1 that keeps the clock.
+pub const TWO: [u8; 15] = [1, 1, 1, 2, 1, 0, 0, 0, 0, 0, 0, 1, 0, 1, 1];
+
+pub fn evidence(model: &[u8]) -> Vec<u8> {
+    let mut out = vec![0; 65_536];
+    let (_, written) = second::write_evidence(model, ENOUGH, &mut out).expect("an accepted model");
+    out.truncate(written);
+    out
+}
+
+pub fn check(model: &[u8], evidence: &[u8]) -> Result<u32, u8> {
+    second::check_evidence(model, evidence, ENOUGH)
+}

@@ -1,0 +1,173 @@
+//! The generator and the changes of evidence do what their kinds say.
+
+mod common;
+
+use common::*;
+use second::calls::states_of;
+use second::components::Components;
+use second::generate::{
+    classify, generate, shares, Class, KINDS, LARGEST_STATES, MIDDLE, SMALL, TINY,
+};
+use second::graph::Graph;
+use second::marking::{reached, Closure};
+use second::mutate::{self, mutate, mutate_as};
+use second::random::Random;
+use second::{judge, read_model};
+use std::collections::BTreeSet;
+
+fn model(seed: u64, kind: &str) -> second::Model {
+    read_model(&generate(seed, kind).unwrap()).unwrap()
+}
+
+#[test]
+fn a_seed_gives_the_same_bytes() {
+    for kind in KINDS {
+        assert_eq!(generate(7, kind), generate(7, kind));
+        let different: BTreeSet<Vec<u8>> =
+            (0..20).filter_map(|seed| generate(seed, kind)).collect();
+        assert!(different.len() >= 12, "{kind}");
+    }
+    assert_eq!(generate(7, "no such kind"), None);
+}
+
+#[test]
+fn refused_kinds() {
+    for refusal in 1..=8 {
+        for seed in 0..400 {
+            let model = generate(seed, &format!("refused-{refusal}")).unwrap();
+            assert_eq!(judge(&model, [MIDDLE; 4]), Err(refusal), "{seed}");
+        }
+    }
+}
+
+#[test]
+fn classes() {
+    for seed in 0..300 {
+        assert_eq!(classify(&model(seed, "safe")), Class::Safe);
+        assert_eq!(classify(&model(seed, "drift")), Class::Drift);
+        assert_eq!(classify(&model(seed, "plain")), Class::Plain);
+    }
+}
+
+#[test]
+fn sizes_and_clocks() {
+    for seed in 0..60 {
+        assert!(states_of(&model(seed, "tiny")) <= TINY);
+        assert!((TINY + 1..=SMALL).contains(&states_of(&model(seed, "small"))));
+        assert!((SMALL + 1..=MIDDLE).contains(&states_of(&model(seed, "middle"))));
+        assert_eq!(states_of(&model(seed, "largest")), LARGEST_STATES);
+        for clocks in 1..=3 {
+            assert_eq!(model(seed, &format!("clocks-{clocks}")).clocks, clocks);
+        }
+    }
+}
+
+#[test]
+fn padded_models_are_longer() {
+    for seed in 0..60 {
+        let bytes = generate(seed, "padded").unwrap();
+        let model = read_model(&bytes).unwrap();
+        let numbers = 6
+            + model.locations.len() * (1 + model.clocks)
+            + model.edges.len() * (3 + 2 * model.clocks);
+        assert!(bytes.len() > numbers);
+    }
+}
+
+#[test]
+fn a_fifth_of_the_accepted_models_needs_a_touch() {
+    let lines = shares(1_000);
+    let number = |start: &str| -> f64 {
+        let line = lines
+            .lines()
+            .find(|line| line.starts_with(start))
+            .expect(start);
+        line[start.len()..]
+            .split_whitespace()
+            .next()
+            .unwrap()
+            .parse()
+            .unwrap()
+    };
+    assert!(number("accepted unsafe only by drift ") >= 0.2 * number("accepted "));
+    assert!(number("accepted safe ") >= 0.2 * number("accepted "));
+    assert!(number("accepted unsafe with perfect clocks ") >= 0.2 * number("accepted "));
+    for refusal in 1..=8 {
+        assert!(number(&format!("refused {refusal} ").replace("8 ", "8 at scratch 4000 ")) > 0.0);
+    }
+}
+
+/// Guards and invariants are not strict, so what is reached is closed: faces
+/// add no state, with or without touches (they do shorten trails). With one
+/// clock touches lead to no new location either.
+#[test]
+fn faces_reach_nothing_new() {
+    for kind in ["tiny", "small", "middle", "clocks-1", "noise"] {
+        for seed in 0..400 {
+            let Ok(model) = read_model(&generate(seed, kind).unwrap()) else {
+                continue;
+            };
+            let one_clock = model.clocks == 1;
+            let graph = Graph::new(model);
+            let components = Components::new(&graph);
+            let by = |face, touch| reached(&graph, &components, Closure { face, touch });
+            assert_eq!(by(false, false), by(true, false));
+            assert_eq!(by(false, true), by(true, true));
+            if one_clock {
+                let locations = |marked: Vec<bool>| -> BTreeSet<usize> {
+                    let states = (0..marked.len()).filter(|&state| marked[state]);
+                    states.map(|state| graph.location_of(state)).collect()
+                };
+                assert_eq!(locations(by(true, false)), locations(by(true, true)));
+            }
+        }
+    }
+}
+
+#[test]
+fn every_change_applies_and_every_refusal_comes_up() {
+    let mut kinds = BTreeSet::new();
+    let mut answers = BTreeSet::new();
+    for seed in 0..1_500 {
+        let kind = ["tiny", "small", "drift"][seed as usize % 3];
+        let bytes = generate(seed, kind).unwrap();
+        let ours = evidence(&bytes);
+        let (kind, other) = mutate(seed, &bytes, &ours);
+        assert_eq!(mutate(seed, &bytes, &ours), (kind, other.clone()));
+        kinds.insert(kind);
+        answers.insert(check(&bytes, &other));
+        if kind == "pad" || kind == "twice" {
+            assert_eq!(check(&bytes, &other), check(&bytes, &ours));
+        }
+        if kind == "cut" {
+            assert!(check(&bytes, &other).is_err());
+        }
+    }
+    assert_eq!(kinds.len(), mutate::KINDS.len());
+    for refusal in [1, 2, 6, 10, 11, 12, 13, 14] {
+        assert!(answers.contains(&Err(refusal)), "{refusal}");
+    }
+    assert!(answers.contains(&Ok(1)) && answers.contains(&Ok(2)));
+}
+
+/// No bytes at all stop the calls or the changes.
+#[test]
+fn any_bytes() {
+    for seed in 0..4_000 {
+        let mut random = Random::new(seed);
+        let mut some = |most: usize| -> Vec<u8> {
+            let length = random.below(most);
+            (0..length).map(|_| if random.one_in(2) { random.below(4) } else { random.below(256) } as u8).collect()
+        };
+        let models = [some(40), ROW.to_vec(), LOOP.to_vec()];
+        let evidence = [&[seed as u8 % 4][..], &some(60)].concat();
+        for model in models {
+            let answer = check(&model, &evidence);
+            assert!((1..=14).contains(&answer.unwrap_or_else(|refusal| refusal.into())));
+            mutate(seed, &model, &evidence);
+            for (kind, _) in mutate::KINDS {
+                mutate_as(seed, kind, &model, &evidence);
+            }
+        }
+    }
+}

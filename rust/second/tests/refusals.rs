@@ -1,0 +1,370 @@
+//! Each row of the table of refusals, their order, and what a call leaves.
+
+mod common;
+
+use common::*;
+use second::numbers::shortest;
+use second::{check_evidence, judge, marks, read_model, write_evidence};
+
+/// The loop plan with one number changed and, if asked for, cut after it.
+fn changed(at: usize, number: u32, cut: bool) -> Vec<u8> {
+    let mut numbers: Vec<u32> = LOOP.iter().map(|&byte| byte.into()).collect();
+    numbers[at] = number;
+    if cut {
+        numbers.truncate(at + 1);
+    }
+    shortest(&numbers)
+}
+
+#[test]
+fn model_ends_too_soon() {
+    for length in 0..LOOP.len() {
+        assert_eq!(read_model(&LOOP[..length]), Err(1));
+        assert_eq!(read_model(&[&LOOP[..length], &[128]].concat()), Err(1));
+        assert_eq!(read_model(&[&LOOP[..length], &[128, 255]].concat()), Err(1));
+    }
+}
+
+#[test]
+fn model_number_too_long() {
+    for at in 0..LOOP.len() {
+        // Whatever value the number might have had, and whatever follows.
+        assert_eq!(
+            read_model(&[&LOOP[..at], &[255, 255, 255]].concat()),
+            Err(2)
+        );
+        assert_eq!(
+            read_model(&[&LOOP[..at], &[LOOP[at] | 128, 128, 128, 0], &LOOP[at + 1..]].concat()),
+            Err(2)
+        );
+    }
+}
+
+#[test]
+fn model_numbers_out_of_range() {
+    // Clocks 2, ceiling 2, locations 4.
+    let header = [1, 3, 4, 8, 24, 3];
+    let location = [1, 3, 3];
+    let edge = [3, 3, 3, 2, 2, 2, 2];
+    for at in 0..LOOP.len() {
+        let (most, refusal) = match at {
+            0..=5 => (header[at], 3),
+            6..=17 => (location[(at - 6) % 3], 4),
+            _ => (edge[(at - 18) % 7], 5),
+        };
+        for number in [most + 1, 127, 128, 16_384, (1 << 21) - 1] {
+            // The refusal comes with the number, so what follows is no matter.
+            assert_eq!(
+                read_model(&changed(at, number, false)),
+                Err(refusal),
+                "{at}"
+            );
+            assert_eq!(read_model(&changed(at, number, true)), Err(refusal), "{at}");
+        }
+    }
+    for at in 0..4 {
+        assert_eq!(read_model(&changed(at, 0, false)), Err(3));
+    }
+}
+
+#[test]
+fn low_above_high_when_high_is_read() {
+    let start = [1, 1, 2, 1, 1, 0, 0, 0, 0, 0, 1];
+    let with = |rest: &[u8]| read_model(&[&start, rest].concat());
+    assert_eq!(with(&[2]), Err(1));
+    assert_eq!(with(&[3]), Err(5));
+    assert_eq!(with(&[2, 1]), Err(5));
+    assert_eq!(with(&[2, 128, 128, 128]), Err(2));
+    assert_eq!(with(&[2, 3]), Err(5));
+    assert_eq!(with(&[2, 1, 0]), Err(5));
+    assert!(with(&[2, 2]).is_ok());
+    assert_eq!(with(&[2, 2, 0]), Err(6));
+}
+
+#[test]
+fn six_then_seven_then_eight() {
+    let unreset = [1, 1, 1, 1, 1, 0, 0, 0, 0, 0, 0, 0, 1];
+    assert_eq!(judge(&unreset, [0; 4]), Err(7));
+    assert_eq!(judge(&[&unreset[..], &[0]].concat(), [0; 4]), Err(6));
+    assert_eq!(
+        judge(&[&LOOP[..], &[128, 128, 128]].concat(), [0; 4]),
+        Err(6)
+    );
+    for short in 0..4 {
+        let mut scratch = [132; 4];
+        assert!(judge(&LOOP, scratch).is_ok());
+        scratch[short] = 131;
+        assert_eq!(judge(&LOOP, scratch), Err(8));
+        assert_eq!(marks(&LOOP, scratch, &mut []), Err(8));
+        assert_eq!(write_evidence(&LOOP, scratch, &mut []), Err(8));
+        assert_eq!(check_evidence(&LOOP, &[], scratch), Err(8));
+    }
+}
+
+#[test]
+fn seven_on_the_drawing_alone() {
+    // A loop at a location that nothing leads to, with clocks that can't be there.
+    let model = [1, 1, 2, 2, 1, 0, 0, 0, 0, 1, 1, 1, 0, 2, 2];
+    assert_eq!(read_model(&model), Err(7));
+    // Two loops through one location that reset one clock each.
+    let both = |first, second| {
+        let edge = |from, to, mask| [from, to, mask, 0, 1, 0, 1];
+        let edges = [
+            edge(0, 1, first),
+            edge(1, 0, 2),
+            edge(0, 2, second),
+            edge(2, 0, 2),
+        ];
+        read_model(
+            &[
+                &[1, 2, 1, 3, 4, 0, 0, 0, 0, 0, 0, 0, 0, 0, 0],
+                edges.concat().as_slice(),
+            ]
+            .concat(),
+        )
+    };
+    assert!(both(1, 1).is_ok());
+    assert_eq!(both(1, 0), Err(7));
+}
+
+#[test]
+fn outputs_of_marks() {
+    for length in 0..132 {
+        let mut out = vec![170; length];
+        assert_eq!(marks(&LOOP, ENOUGH, &mut out), Err(9));
+        assert!(out.iter().all(|&byte| byte == 170));
+    }
+    let mut out = vec![170; 140];
+    assert_eq!(marks(&LOOP, ENOUGH, &mut out), Ok(132));
+    assert!(out[..132].iter().all(|&byte| byte <= 1));
+    assert!(out[132..].iter().all(|&byte| byte == 170));
+    assert_eq!(marks(&ROW, [3; 4], &mut out[..3]), Ok(3));
+    assert_eq!(out[..3], [1, 1, 1]);
+}
+
+#[test]
+fn outputs_of_evidence() {
+    for model in [&LOOP[..], &ROW[..]] {
+        let whole = evidence(model);
+        for length in 0..whole.len() {
+            let mut out = vec![170; length];
+            assert_eq!(write_evidence(model, ENOUGH, &mut out), Err(9));
+            assert!(out.iter().all(|&byte| byte == 170));
+        }
+        for length in [whole.len(), whole.len() + 5] {
+            let mut out = vec![170; length];
+            let is_unsafe = whole[0] == 2;
+            assert_eq!(
+                write_evidence(model, ENOUGH, &mut out),
+                Ok((is_unsafe, whole.len()))
+            );
+            assert_eq!(out[..whole.len()], whole);
+            assert!(out[whole.len()..].iter().all(|&byte| byte == 170));
+        }
+    }
+    // No other refusal touches the output either.
+    let mut out = vec![170; 200];
+    assert_eq!(write_evidence(&LOOP, [131; 4], &mut out), Err(8));
+    assert_eq!(marks(&LOOP[..9], ENOUGH, &mut out), Err(1));
+    assert!(out.iter().all(|&byte| byte == 170));
+}
+
+#[test]
+fn first_number_of_evidence() {
+    assert_eq!(check(&ROW, &[]), Err(1));
+    assert_eq!(check(&ROW, &[129]), Err(1));
+    assert_eq!(check(&ROW, &[129, 128, 128]), Err(2));
+    for first in [0, 3, 4, 127] {
+        assert_eq!(check(&ROW, &[first]), Err(10));
+        assert_eq!(check(&ROW, &[first, 128, 128, 128]), Err(10));
+    }
+    assert_eq!(check(&ROW, &[129, 128, 0, 133, 0, 3, 129, 0]), Ok(1));
+    // The model comes first.
+    assert_eq!(check(&ROW[..7], &[]), Err(1));
+    assert_eq!(check(&[&ROW[..], &[0]].concat(), &[9]), Err(6));
+}
+
+#[test]
+fn numbers_of_a_sheet() {
+    for length in 1..4 {
+        assert_eq!(check(&ROW, &[1, 5, 3, 1][..length]), Err(1));
+        assert_eq!(
+            check(&ROW, &[&[1, 5, 3, 1][..length], &[128, 128, 128]].concat()),
+            Err(2)
+        );
+        // 2S-1 is 5; a number above it is refused before the end is seen.
+        assert_eq!(
+            check(&ROW, &[&[1, 5, 3, 1][..length], &[6]].concat()),
+            Err(11)
+        );
+    }
+    assert_eq!(check(&ROW, &[1, 5, 3, 1, 0]), Err(6));
+    assert_eq!(check(&ROW, &[1, 5, 3, 1, 128, 128, 128]), Err(6));
+    // Rules are looked at last.
+    assert_eq!(check(&ROW, &[1, 0, 0, 0, 0]), Err(6));
+    assert_eq!(check(&ROW, &[1, 0, 0, 0]), Err(12));
+    // A stay limit of 0 allows only the first state.
+    let short = [1, 1, 1, 1, 0, 0, 0, 1];
+    assert_eq!(evidence(&short), [1, 1, 0, 0]);
+    assert_eq!(check(&short, &[1, 5, 0, 0]), Ok(1));
+    for number in 1..=5 {
+        assert_eq!(check(&short, &[1, 1, number]), Err(11));
+        assert_eq!(check(&short, &[1, 1, 0, number]), Err(11));
+    }
+}
+
+#[test]
+fn rules_of_a_sheet() {
+    // Start in.
+    assert_eq!(check(&ROW, &[1, 4, 2, 0]), Err(12));
+    // Closed under time.
+    assert_eq!(check(&ROW, &[1, 5, 2, 0]), Err(12));
+    assert_eq!(check(&ROW, &[1, 5, 3, 0]), Err(12));
+    // Heights are not raised, but may stay.
+    assert_eq!(check(&ROW, &[1, 3, 5, 1]), Err(12));
+    assert_eq!(check(&ROW, &[1, 1, 1, 1]), Ok(1));
+
+    // The second location is entered at 1, and there only 1 is reached.
+    assert_eq!(evidence(&TWO), [1, 7, 5, 3, 4, 2, 1]);
+    assert_eq!(check(&TWO, &[1, 7, 5, 3, 4, 2, 1]), Ok(1));
+    // Closed under jump.
+    assert_eq!(check(&TWO, &[1, 7, 5, 3, 4, 2, 0]), Err(12));
+    // Closed under face: with the interval in, its end 0 is in too.
+    assert_eq!(check(&TWO, &[1, 7, 5, 3, 4, 3, 1]), Err(12));
+    assert_eq!(check(&TWO, &[1, 7, 5, 3, 5, 3, 1]), Ok(1));
+    // The interval is out and shares the corner 1: its step must go down.
+    assert_eq!(check(&TWO, &[1, 7, 5, 3, 4, 0, 1]), Err(12));
+    // The point 0 is out and shares no corner: its step may stay level.
+    assert_eq!(check(&TWO, &[1, 7, 5, 3, 2, 2, 1]), Ok(1));
+    // A jump that raises the height.
+    assert_eq!(check(&TWO, &[1, 7, 5, 1, 6, 4, 3]), Err(12));
+    // No in-state forbidden.
+    let mut forbidden = TWO;
+    forbidden[8] = 1;
+    assert_eq!(check(&forbidden, &[1, 7, 5, 3, 4, 2, 1]), Err(12));
+}
+
+#[test]
+fn an_equal_height_hides_no_loop() {
+    // The set that perfect clocks reach in the loop plan, with heights that
+    // stay level along the loop: the touched loop must break a rule.
+    let forged = second::mutate::mutate_as(0, "equal", &LOOP, &LOOP_TRAIL).unwrap();
+    assert_eq!(forged[0], 1);
+    assert_eq!(check(&LOOP, &forged), Err(12));
+}
+
+#[test]
+fn steps_of_a_trail() {
+    let with = |rest: &[u8]| check(&LOOP, &[&[2], rest].concat());
+    // The count, and a trail without steps.
+    assert_eq!(with(&[]), Err(1));
+    assert_eq!(with(&[128, 128, 128]), Err(2));
+    assert_eq!(with(&[0]), Err(14));
+    assert_eq!(with(&[0, 0]), Err(6));
+    assert_eq!(with(&[1]), Err(1));
+    assert_eq!(with(&[255, 255, 127, 4]), Err(13));
+    assert_eq!(with(&[255, 255, 127, 0]), Err(1));
+    // Kinds.
+    for kind in [4, 5, 127] {
+        assert_eq!(with(&[1, kind]), Err(13));
+    }
+    assert_eq!(with(&[1, 132, 0]), Err(13));
+    assert_eq!(with(&[1, 128, 0]), Err(14)); // time, padded
+    assert_eq!(with(&[5, 0, 0, 0, 0, 0]), Err(13)); // past the ceiling
+    assert_eq!(with(&[4, 0, 0, 0, 0]), Err(14));
+    // Edges: a guard that does not hold, another location, no such edge.
+    assert_eq!(with(&[1, 1]), Err(1));
+    assert_eq!(with(&[1, 1, 0]), Err(13));
+    assert_eq!(with(&[3, 0, 0, 1, 1]), Err(13));
+    assert_eq!(with(&[3, 0, 0, 1, 4]), Err(13));
+    assert_eq!(with(&[3, 0, 0, 1, 0]), Err(14));
+    // Faces: of w 0 0, r 1 1 these are (0,0) and (1,1).
+    assert_eq!(with(&[2, 0, 2, 0, 0, 0, 0]), Err(14));
+    assert_eq!(with(&[2, 0, 2, 1, 1, 0, 0]), Err(14));
+    assert_eq!(with(&[2, 0, 2, 0, 0, 1, 1]), Err(13)); // all corners
+    assert_eq!(with(&[2, 0, 2, 1, 0, 0, 0]), Err(13));
+    assert_eq!(with(&[1, 2, 0, 0, 0, 0]), Err(13));
+    // A bad region is refused with its last number, not before.
+    assert_eq!(with(&[2, 0, 2, 9, 9, 9]), Err(1));
+    assert_eq!(with(&[2, 0, 2, 9, 128, 128, 128, 0]), Err(2));
+    assert_eq!(with(&[2, 0, 2, 9, 9, 9, 9]), Err(13));
+    assert_eq!(with(&[2, 0, 2, 0, 0, 2, 0]), Err(13)); // ranks 2 and 0
+                                                       // 6 comes before 14.
+    assert_eq!(with(&[1, 0, 0]), Err(6));
+    let longer = [&LOOP_TRAIL[..], &[0]].concat();
+    assert_eq!(check(&LOOP, &longer), Err(6));
+}
+
+#[test]
+fn touches_of_a_trail() {
+    // The trail of the bench up to its touch: w 0 1, r 0 1 in location 2.
+    let before = &LOOP_TRAIL[1..9];
+    let with = |rest: &[u8]| check(&LOOP, &[&[2], before, rest].concat());
+    let touch: &[u8] = &[3, 0, 1, 0, 1];
+    let walk: &[u8] = &[0, 0, 1, 2, 0, 0, 0, 0, 0, 0, 1, 1];
+    let touching = |rest: &[u8]| with(&[touch, rest].concat());
+    assert_eq!(touching(&[&[10], walk].concat()), Err(1)); // the trail goes on
+                                                           // A region that shares no corner, is none, or is cut short.
+    assert_eq!(with(&[3, 1, 2, 1, 0]), Err(13));
+    assert_eq!(with(&[3, 0, 1, 0, 2]), Err(13));
+    assert_eq!(with(&[3, 0, 1, 0]), Err(1));
+    // The count of the walk.
+    assert_eq!(touching(&[]), Err(1));
+    assert_eq!(touching(&[0]), Err(13));
+    assert_eq!(touching(&[128, 128, 128]), Err(2));
+    assert_eq!(touching(&[255, 255, 127, 0]), Err(1));
+    // Kinds and edges of the walk: never face or touch.
+    assert_eq!(touching(&[1, 2]), Err(13));
+    assert_eq!(touching(&[1, 3]), Err(13));
+    assert_eq!(touching(&[2, 0, 1]), Err(1));
+    assert_eq!(touching(&[2, 1, 0]), Err(13));
+    assert_eq!(touching(&[2, 1, 9]), Err(13));
+    // A walk that does not close, after its last step.
+    assert_eq!(touching(&[9, 0, 0, 1, 2, 0, 0, 0, 0, 0, 0]), Err(13));
+    assert_eq!(touching(&[9, 0, 0, 1, 2, 0, 0, 0, 0, 0]), Err(1));
+    assert_eq!(touching(&[1, 0]), Err(13));
+    // A walk may be gone twice.
+    let twice = [&[&[20], walk, walk].concat()[..], &LOOP_TRAIL[27..]].concat();
+    assert_eq!(touching(&twice), Ok(2));
+}
+
+#[test]
+fn a_touch_may_stay_where_it_is() {
+    // One location with a loop that resets its clock: the start touches itself.
+    let model = [1, 1, 1, 1, 1, 0, 1, 0, 0, 0, 1, 0, 1];
+    assert_eq!(evidence(&model), [2, 0]);
+    assert_eq!(check(&model, &[2, 1, 3, 0, 0, 1, 1, 0]), Ok(2));
+    // Without the loop there is no walk to go.
+    assert_eq!(
+        check(&[1, 1, 1, 1, 0, 0, 1, 0], &[2, 1, 3, 0, 0, 1, 1, 0]),
+        Err(13)
+    );
+}
+
+#[test]
+fn regions_not_allowed_are_bad() {
+    // Two locations with a stay limit of 1 at ceiling 2; the second lies in
+    // a loop that resets the clock.
+    let model = [1, 1, 2, 1, 1, 0, 1, 2, 0, 0, 1, 0, 2];
+    // From the point 1: the interval below is on the loop, the one above is not allowed.
+    assert_eq!(check(&model, &[2, 3, 0, 0, 3, 0, 1, 3, 0, 1, 0, 0]), Ok(2));
+    assert_eq!(check(&model, &[2, 3, 0, 0, 3, 1, 1]), Err(13));
+    assert_eq!(check(&model, &[2, 3, 0, 0, 0]), Err(13));
+}
+
+#[test]
+fn inputs_at_which_readings_could_differ() {
+    // A walk step that cannot be taken is refused at once, though the bytes end.
+    assert_eq!(check(&LOOP, &[2, 1, 3, 0, 0, 0, 0, 5, 1, 9]), Err(13));
+    // A region without a shared corner is refused before the walk is read.
+    assert_eq!(check(&ROW, &[2, 1, 3, 1, 0]), Err(13));
+    // A region on no closed walk is refused by its walk: here the bytes end first.
+    assert_eq!(check(&ROW, &[2, 1, 3, 0, 0]), Err(1));
+    assert_eq!(check(&ROW, &[2, 1, 3, 0, 0, 1]), Err(1));
+    assert_eq!(check(&ROW, &[2, 1, 3, 0, 0, 1, 0]), Err(13));
+    // Through a forbidden location to an ordinary one.
+    let mut through = TWO;
+    through[6] = 1;
+    assert_eq!(check(&through, &[2, 3, 0, 0, 1, 0]), Err(14));
+    assert_eq!(check(&through, &[2, 2, 0, 0]), Ok(2));
+}

@@ -1,0 +1,49 @@
+//! Time limits, for the release build: a model of about 4,000 states in 0.2
+//! seconds, one of the largest in 2 seconds.
+
+mod common;
+
+use common::ENOUGH;
+use second::generate::{generate_sized, Class};
+use second::{check_evidence, judge, write_evidence};
+use std::time::{Duration, Instant};
+
+fn within(limit: Duration, sizes: &[(usize, u32, usize, usize)], classes: &[Class]) {
+    for &(clocks, ceiling, locations, states) in sizes {
+        for &class in classes {
+            for seed in 0..6 {
+                let model = generate_sized(seed, clocks, ceiling, locations, class);
+                let begin = Instant::now();
+                assert_eq!(judge(&model, ENOUGH).unwrap().states, states);
+                assert!(begin.elapsed() < limit, "judge");
+                let begin = Instant::now();
+                let mut out = vec![0; 65_536];
+                let (_, written) = write_evidence(&model, ENOUGH, &mut out).unwrap();
+                assert!(begin.elapsed() < limit, "evidence");
+                let begin = Instant::now();
+                assert!(check_evidence(&model, &out[..written], ENOUGH).is_ok());
+                assert!(begin.elapsed() < limit, "check");
+            }
+        }
+    }
+}
+
+#[test]
+fn four_thousand_states() {
+    let limit = Duration::from_millis(200);
+    within(
+        limit,
+        &[(3, 3, 4, 3_532)],
+        &[Class::Safe, Class::Drift, Class::Plain],
+    );
+    within(limit, &[(3, 4, 2, 3_954)], &[Class::Safe, Class::Plain]);
+}
+
+#[test]
+fn the_largest() {
+    within(
+        Duration::from_secs(2),
+        &[(3, 4, 8, 15_816)],
+        &[Class::Safe, Class::Drift, Class::Plain],
+    );
+}
