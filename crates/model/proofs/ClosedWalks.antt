@@ -1,0 +1,199 @@
+-- The rounds find just the closed walks, whatever the edges that count.
+use Prim.Native.Nat.{ℕ, suc, zero, _≤_, _<_}
+use native.Mathlib.Omega.{arith}
+use mathlib.Core.Path.{_≡_, refl, sym, ap, subst, _∙_}
+use mathlib.Core.List.{List, [], _∷_}
+use mathlib.Core.Bool.{Bool, true, false}
+use mathlib.Core.Logic.{_↔_, inl, inr}
+use lib.ListN.{length, getD, set, replicate, length-set, getD-replicate}
+use lib.Seq.{getD-set-same, getD-set-other}
+use lib.Dec.{eqb}
+use borrow.Author.Tests.{eqb-true, eqb-false, eq-eqb}
+use Rattle.number.proofs.Laws.{cond-ind}
+use Rattle.model.specs.declared.Model.{Model}
+use Rattle.model.specs.Limits.{maxLocations}
+use Rattle.model.specs.Each.{each}
+use Rattle.model.specs.Model.{Lawful, sourceOf, targetOf, keeps}
+use Rattle.model.specs.Cycle.{Walk, here, step, ClosedWalk, LeavesUnreset, markedAt, markEdge, roundOf, survivors, hasCycle, unresetAt, unreset}
+use Rattle.model.proofs.Each.{some-law}
+use Rattle.model.proofs.Pigeonhole.{Mem, Dup, pigeonhole}
+
+-- ---- one round: the sources of the edges that pass and lead to a mark
+
+zeros : (n v : ℕ) → _≡_ {A = ℕ} (getD (replicate n 0) v 0) 0
+zeros zero v = refl
+zeros (suc n) zero = refl
+zeros (suc n) (suc v) = zeros n v
+
+module _ (m : Model) (good : Lawful m) (pass : ℕ → Bool) where
+  swept : List ℕ → ℕ → List ℕ
+  swept a n = each n (markEdge m pass a) (replicate maxLocations 0)
+
+  mark-length : (a b : List ℕ) (e : ℕ) → length b ≡ maxLocations → length (markEdge m pass a e b) ≡ maxLocations
+  unfolding markEdge
+  mark-length a b e h =
+      cond-ind (λ (l : List ℕ). length l ≡ maxLocations) (pass e)
+      (λ _. cond-ind (λ (l : List ℕ). length l ≡ maxLocations) (markedAt a (targetOf m e)) (λ _. length-set b (sourceOf m e) 1 ∙ h) (λ _. h))
+      (λ _. h)
+
+  swept-length : (a : List ℕ) (n : ℕ) → length (swept a n) ≡ maxLocations
+  unfolding swept each
+  swept-length a zero = refl
+  swept-length a (suc n) = mark-length a (each n (markEdge m pass a) (replicate maxLocations 0)) n (swept-length a n)
+
+  source-below : (e : ℕ) → sourceOf m e < maxLocations
+  source-below e = omega (arith, good .ranges .source e, good .locations .1)
+
+  target-below : (e : ℕ) → targetOf m e < maxLocations
+  target-below e = omega (arith, good .ranges .target e, good .locations .1)
+
+  -- a mark comes from an edge
+  Edge : List ℕ → ℕ → ℕ → Type 0
+  Edge a n v = (e : ℕ) × (e < n) × (sourceOf m e ≡ v) × (pass e ≡ true) × (getD a (targetOf m e) 0 ≡ 1)
+
+  swept-sound : (a : List ℕ) (n v : ℕ) → getD (swept a n) v 0 ≡ 1 → Edge a n v
+  unfolding swept each Edge markEdge
+  swept-sound a zero v = λ h. absurd (omega (arith, zeros maxLocations v))
+  swept-sound a (suc n) v =
+      let ih = swept-sound a n v in
+      let b = each n (markEdge m pass a) (replicate maxLocations 0) in
+      let more : Edge a n v → Edge a (suc n) v = λ r. (r .0, omega (arith, r .1), r .2, r .3, r .4) in
+      cond-ind (λ (l : List ℕ). getD l v 0 ≡ 1 → Edge a (suc n) v) (pass n)
+      (λ k. cond-ind (λ (l : List ℕ). getD l v 0 ≡ 1 → Edge a (suc n) v) (markedAt a (targetOf m n))
+      (λ t h. at b k t h (eqb (sourceOf m n) v) refl (λ p. more (ih p)))
+      (λ t h. more (ih h)))
+      (λ k h. more (ih h))
+    where
+      at : (b : List ℕ) → pass n ≡ true → markedAt a (targetOf m n) ≡ true → getD (set b (sourceOf m n) 1) v 0 ≡ 1
+          → (s : Bool) → eqb (sourceOf m n) v ≡ s → (getD b v 0 ≡ 1 → Edge a (suc n) v) → Edge a (suc n) v
+      at b k t h true q f = (n, omega arith, eqb-true _ _ q, k, eqb-true _ _ t)
+      at b k t h false q f = f (sym (getD-set-other b (sourceOf m n) v 1 0 (λ z. eqb-false (sourceOf m n) v q (sym z))) ∙ h)
+
+  -- a mark stays
+  mark-stays : (a b : List ℕ) (e v : ℕ) → v < length b → getD b v 0 ≡ 1 → getD (markEdge m pass a e b) v 0 ≡ 1
+  unfolding markEdge
+  mark-stays a b e v l h =
+      cond-ind (λ (c : List ℕ). getD c v 0 ≡ 1) (pass e)
+      (λ _. cond-ind (λ (c : List ℕ). getD c v 0 ≡ 1) (markedAt a (targetOf m e)) (λ _. at (eqb v (sourceOf m e)) refl) (λ _. h))
+      (λ _. h)
+    where
+      at : (s : Bool) → eqb v (sourceOf m e) ≡ s → getD (set b (sourceOf m e) 1) v 0 ≡ 1
+      at true q = subst (λ (k : ℕ). getD (set b k 1) v 0 ≡ 1) (eqb-true _ _ q) (getD-set-same b v 1 0 l)
+      at false q = getD-set-other b (sourceOf m e) v 1 0 (eqb-false _ _ q) ∙ h
+
+  -- the edge's own mark
+  mark-it : (a b : List ℕ) (e : ℕ) → length b ≡ maxLocations → pass e ≡ true → getD a (targetOf m e) 0 ≡ 1
+      → getD (markEdge m pass a e b) (sourceOf m e) 0 ≡ 1
+  unfolding markEdge
+  mark-it a b e len k t = simp (k, eq-eqb _ _ t) (getD-set-same b (sourceOf m e) 1 0 (omega (arith, source-below e)))
+
+  swept-complete : (a : List ℕ) (n e : ℕ) → e < n → pass e ≡ true → getD a (targetOf m e) 0 ≡ 1 → getD (swept a n) (sourceOf m e) 0 ≡ 1
+  unfolding swept each
+  swept-complete a zero e h k t = absurd (omega arith)
+  swept-complete a (suc n) e h k t = go (eqb e n) refl (swept-complete a n e)
+    where
+      b : List ℕ
+      b = each n (markEdge m pass a) (replicate maxLocations 0)
+
+      len : length b ≡ maxLocations
+      len = swept-length a n
+
+      go : (s : Bool) → eqb e n ≡ s → (e < n → pass e ≡ true → getD a (targetOf m e) 0 ≡ 1 → getD b (sourceOf m e) 0 ≡ 1)
+          → getD (markEdge m pass a n b) (sourceOf m e) 0 ≡ 1
+      go true q ih = subst (λ (j : ℕ). getD (markEdge m pass a j b) (sourceOf m e) 0 ≡ 1) (eqb-true e n q) (mark-it a b e len k t)
+      go false q ih = mark-stays a b n (sourceOf m e) (omega (arith, len, source-below e)) (ih (let d = eqb-false e n q in omega arith) k t)
+
+  -- ---- k rounds: a walk of k edges starts where there is a mark
+
+  table : ℕ → List ℕ
+  table k = each k (λ i a. roundOf m pass a) (replicate maxLocations 1)
+
+  table-sound : (k v : ℕ) → getD (table k) v 0 ≡ 1 → (u : ℕ) × Walk m pass k v u
+  unfolding table each roundOf swept Edge
+  table-sound zero v h = (v, here)
+  table-sound (suc k) v h = go (swept-sound (table k) (m .edges) v h) (λ w. table-sound k w)
+    where
+      go : Edge (table k) (m .edges) v → ((w : ℕ) → getD (table k) w 0 ≡ 1 → (u : ℕ) × Walk m pass k w u) → (u : ℕ) × Walk m pass (suc k) v u
+      go r ih = let t = ih (targetOf m (r .0)) (r .4) in (t .0, step (r .0) (r .1) (r .2) (r .3) (t .1))
+
+  table-complete : {k v u : ℕ} → Walk m pass k v u → v < maxLocations → getD (table k) v 0 ≡ 1
+  unfolding table each roundOf swept
+  table-complete {v = v} here h = getD-replicate maxLocations v 1 0 h
+  table-complete (step {k = k} e l s q w) h =
+      subst (λ (i : ℕ). getD (table (suc k)) i 0 ≡ 1) s (swept-complete (table k) (m .edges) e l q (table-complete w (target-below e)))
+
+  -- ---- closed walks
+
+  -- from where a walk leads to a closed walk's beginning, walks of every length start
+  around : {k v : ℕ} → Walk m pass (suc k) v v → (j : ℕ) {a u : ℕ} → Walk m pass a u v → (t : ℕ) × Walk m pass j u t
+  around c zero {u = u} w = (u, here)
+  around (step e l s q w) (suc j) here = let r = around (step e l s q w) j w in (r .0, step e l s q (r .1))
+  around c (suc j) (step e l s q w) = let r = around c j w in (r .0, step e l s q (r .1))
+
+  visits : {k v u : ℕ} → Walk m pass k v u → List ℕ
+  visits {v = v} here = v ∷ []
+  visits {v = v} (step e l s q w) = v ∷ visits w
+
+  visits-length : {k v u : ℕ} (w : Walk m pass k v u) → length (visits w) ≡ suc k
+  unfolding visits
+  visits-length here = refl
+  visits-length (step e l s q w) = ap suc (visits-length w)
+
+  visits-below : {k v u : ℕ} (w : Walk m pass k v u) → v < m .locations → (z : ℕ) → Mem z (visits w) → z < m .locations
+  unfolding visits
+  visits-below here h z (inl e) = omega arith
+  visits-below here h z (inr n) = absurd n
+  visits-below (step e l s q w) h z (inl p) = omega arith
+  visits-below (step e l s q w) h z (inr p) = visits-below w (good .ranges .target e) z p
+
+  reach : {k v u : ℕ} (w : Walk m pass k v u) (z : ℕ) → Mem z (visits w) → (i : ℕ) × Walk m pass i v z
+  unfolding visits
+  reach {v = v} here z (inl p) = (0, subst (λ (y : ℕ). Walk m pass 0 v y) (sym p) here)
+  reach here z (inr p) = absurd p
+  reach {v = v} (step e l s q w) z (inl p) = (0, subst (λ (y : ℕ). Walk m pass 0 v y) (sym p) here)
+  reach (step e l s q w) z (inr p) = let r = reach w z p in (suc (r .0), step e l s q (r .1))
+
+  dup-closed : {k v u : ℕ} (w : Walk m pass k v u) → Dup (visits w) → ClosedWalk m pass
+  unfolding visits
+  dup-closed here (inl p) = absurd p
+  dup-closed here (inr p) = absurd p
+  dup-closed {v = v} (step e l s q w) (inl p) = let r = reach w v p in (r .0, v, step e l s q (r .1))
+  dup-closed (step e l s q w) (inr p) = dup-closed w p
+
+  -- a walk of as many edges as there are locations has a closed walk in it
+  long-closed : {v u : ℕ} → Walk m pass (m .locations) v u → v < m .locations → ClosedWalk m pass
+  long-closed w h = dup-closed w (pigeonhole (m .locations) (visits w) (visits-below w h) (omega (arith, visits-length w)))
+
+  -- a walk of one or more edges starts at a location
+  starts-below : {k v u : ℕ} → Walk m pass (suc k) v u → v < m .locations
+  starts-below (step e l s q w) = omega (arith, good .ranges .source e)
+
+  -- ---- the rounds find what they are to find
+
+  cycle-sound : hasCycle m pass ≡ true → ClosedWalk m pass
+  unfolding hasCycle survivors table
+  cycle-sound h =
+      let r = some-law maxLocations (markedAt (survivors m pass)) .0 h in
+      let w = table-sound (m .locations) (r .0) (eqb-true _ _ (r .2)) in
+      long-closed (w .1) (first-below (m .locations) (good .locations .0) (w .1))
+    where
+      first-below : (k : ℕ) → 1 ≤ k → {v u : ℕ} → Walk m pass k v u → v < m .locations
+      first-below zero h w = absurd (omega arith)
+      first-below (suc k) h w = starts-below w
+
+  cycle-complete : ClosedWalk m pass → hasCycle m pass ≡ true
+  unfolding hasCycle survivors table
+  cycle-complete (k, v, w) =
+      let b : v < maxLocations = omega (arith, starts-below w, good .locations .1) in
+      let r = around w (m .locations) w in
+      some-law maxLocations (markedAt (survivors m pass)) .1 (v, b, eq-eqb _ _ (table-complete (r .1) b))
+
+  pub cycle-law : (hasCycle m pass ≡ true) ↔ ClosedWalk m pass
+  cycle-law = (cycle-sound, cycle-complete)
+
+pub unreset-law : (m : Model) → Lawful m → (unreset m ≡ true) ↔ LeavesUnreset m
+unfolding unreset
+unreset-law m good = (
+  λ h. let r = some-law (m .clocks) (unresetAt m) .0 h in (r .0, r .1, cycle-law m good (keeps m (r .0)) .0 (r .2)),
+  λ (x, l, w). some-law (m .clocks) (unresetAt m) .1 (x, l, cycle-law m good (keeps m x) .1 w),
+)

@@ -1,0 +1,28 @@
+-- Stopped before, refused now, or a value whose limit is stored.
+use borrow.Author.Needs.{needs}
+use borrow.Author.Tests.{eq-eqb, ne-eqb}
+use Rattle.model.specs.Parse.{invariantAt}
+use Rattle.model.proofs.Fields.{stop-law}
+use Rattle.model.proofs.parse.read_invariant.Statement.{statement}
+use Rattle.model.proofs.parse.read_invariant.Tie as tie
+
+pub read-invariant-spec : {M : Type 1} → statement M
+unfolding invariantAt
+read-invariant-spec =
+    tie.close
+    (tie.spec
+    (λ c. simp (ne-eqb _ _ (c .if1 .taken)))
+    (λ c. search needs)
+    (λ c κs. search needs)
+    (λ c. search needs)
+    (λ c. search needs)
+    (λ c κs. search needs)
+    (λ c. let c3 = c .before .before .before in let c4 = c3 .before in
+    simp (eq-eqb _ _ (c4 .if1 .left), ← (c3 .read-field .ensures), c .before .enum-told .given .1)
+    (stop-law (c .stop .ensures) (c .before .enum-told .given .1)))
+    (λ c. search needs)
+    (λ c. search needs)
+    (λ c κs. search needs)
+    (λ c. search needs)
+    (λ c. let c3 = c .before .before .before in let c5 = c3 .before .before in let c6 = c5 .before in
+    simp (c .limit .ensures, eq-eqb _ _ (c6 .if1 .left), ← (c5 .read-field .ensures), c3 .got .given .1)))

@@ -1,0 +1,12 @@
+-- Rounds over the numbers below a bound: what a loop does.
+use Prim.Native.Nat.{ℕ, zero, suc}
+use mathlib.Core.Bool.{Bool, false, _||_}
+
+-- f 0, then f 1, and so on: n in all
+unfoldable pub each : {A : Type 0} → ℕ → (ℕ → A → A) → A → A
+each zero f s = s
+each (suc n) f s = f n (each n f s)
+
+-- the test holds somewhere below n
+abbrev pub someBelow : ℕ → (ℕ → Bool) → Bool
+someBelow n t = each n (λ i r. t i || r) false

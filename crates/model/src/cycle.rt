@@ -1,0 +1,115 @@
+// Whether a closed walk of edges leaves some clock unreset, by rounds over the locations.
+ghost use mathlib.Core.Path.{_≡_};
+ghost use mathlib.Core.Bool.{_||_};
+ghost use Prim.Native.Nat.{_<_};
+ghost use Rattle.model.specs.Limits.{maxClocks, maxLocations, maxEdges};
+ghost use Rattle.model.specs.Each.{someBelow};
+ghost use Rattle.model.specs.Model.{Lawful, keeps};
+ghost use Rattle.model.specs.Cycle.{markedAt, markEdge, roundOf, survivors, unresetAt, unreset};
+use crate::LOCATION_SLOTS;
+use crate::Model;
+
+// An edge does not reset the clock.
+fn keeps_clock(m: Model, x: u8, e: usize) -> bool
+    requires { ⌜ (x < maxClocks) × (e < maxEdges) ⌝ }
+    ensures { λ r. ⌜ r ≡ keeps m x e ⌝ }
+{
+    (m.reset[e] >> x) % 2 == 0
+}
+
+fn mark_edge(
+    m: Model,
+    x: u8,
+    a: [u8; LOCATION_SLOTS],
+    e: usize,
+    b: [u8; LOCATION_SLOTS],
+) -> [u8; LOCATION_SLOTS]
+    requires { ⌜ Lawful m ⌝ }
+    requires { ⌜ (x < maxClocks) × (e < maxEdges) ⌝ }
+    ensures { λ r. ⌜ r ≡ markEdge m (keeps m x) a e b ⌝ }
+{
+    let mut c = b;
+    if keeps_clock(m, x, e) {
+        let t = m.target[e] as usize;
+        if a[t] == 1 {
+            let s = m.source[e] as usize;
+            c[s] = 1;
+            return c;
+        }
+        return c;
+    }
+    c
+}
+
+// The sources of the edges that keep the clock and lead to a mark.
+fn round(m: Model, x: u8, a: [u8; LOCATION_SLOTS]) -> [u8; LOCATION_SLOTS]
+    requires { ⌜ Lawful m ⌝ }
+    requires { ⌜ x < maxClocks ⌝ }
+    ensures { λ r. ⌜ r ≡ roundOf m (keeps m x) a ⌝ }
+{
+    let count = m.edges as usize;
+    let mut b = [0; LOCATION_SLOTS];
+    for e in 0..count {
+        let c = mark_edge(m, x, a, e, b);
+        b = c;
+    }
+    b
+}
+
+fn rounds(m: Model, x: u8) -> [u8; LOCATION_SLOTS]
+    requires { ⌜ Lawful m ⌝ }
+    requires { ⌜ x < maxClocks ⌝ }
+    ensures { λ r. ⌜ r ≡ survivors m (keeps m x) ⌝ }
+{
+    let count = m.locations as usize;
+    let mut a = [1; LOCATION_SLOTS];
+    for _ in 0..count {
+        let c = round(m, x, a);
+        a = c;
+    }
+    a
+}
+
+fn or_marked(a: [u8; LOCATION_SLOTS], i: usize, found: bool) -> bool
+    requires { ⌜ i < maxLocations ⌝ }
+    ensures { λ r. ⌜ r ≡ (markedAt a i || found) ⌝ }
+{
+    if a[i] == 1 {
+        return true;
+    }
+    found
+}
+
+fn any_marked(a: [u8; LOCATION_SLOTS]) -> bool
+    ensures { λ r. ⌜ r ≡ someBelow maxLocations (markedAt a) ⌝ }
+{
+    let mut found = false;
+    for i in 0..LOCATION_SLOTS {
+        found = or_marked(a, i, found);
+    }
+    found
+}
+
+fn or_cycle(m: Model, x: u8, found: bool) -> bool
+    requires { ⌜ Lawful m ⌝ }
+    requires { ⌜ x < maxClocks ⌝ }
+    ensures { λ r. ⌜ r ≡ (unresetAt m x || found) ⌝ }
+{
+    if any_marked(rounds(m, x)) {
+        return true;
+    }
+    found
+}
+
+// A closed walk leaves some clock unreset.
+pub fn leaves_unreset(m: Model) -> bool
+    requires { ⌜ Lawful m ⌝ }
+    ensures { λ r. ⌜ r ≡ unreset m ⌝ }
+{
+    let n = m.clocks;
+    let mut found = false;
+    for x in 0..n {
+        found = or_cycle(m, x, found);
+    }
+    found
+}

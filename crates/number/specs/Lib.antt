@@ -1,0 +1,2 @@
+-- What a number is.
+pub mod Number
