@@ -29,6 +29,13 @@ pub mod Lists
 pub mod Pointwise
 -- The tests of regions and states say what 01 means by them.
 pub mod Region
+-- Ranks without a gap; steps of lawful regions are lawful, a face keeps the limits.
+pub mod Ranks
+pub mod RegionSteps
+-- Members and order of lists that are put together.
+pub mod Sorted
+-- The list of all regions: lawful, complete, ascending; 01's counts.
+pub mod Enumeration
 -- The bench's cases on regions, computed.
 pub mod RegionExamples
 -- Some shift rounds all entry times of a run well.
@@ -41,3 +48,7 @@ pub mod Widen
 pub mod Stay
 -- The bound is sharp.
 pub mod Sharp
+-- Numbers of states lead to states and back; the system of an automaton keeps the laws.
+pub mod StateGraph
+-- Its marked numbers are the marked states; a closed set of numbers covers slight drift.
+pub mod StateMarked

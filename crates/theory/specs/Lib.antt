@@ -31,7 +31,11 @@ pub mod Pointwise
 pub mod Automaton
 -- Regions: lawful ones, corners, faces, time successor, reset, all of them in order.
 pub mod Region
+-- The order of regions, and how many there are.
+pub mod Enumeration
 -- States, their four steps and the marked set, on locations and regions.
 pub mod RegionGraph
+-- States by their numbers, and the system that they form.
+pub mod StateGraph
 -- An automaton at which the bound on the drift is sharp.
 pub mod Sharp

@@ -1,0 +1,120 @@
+-- The marked numbers of an automaton's system are its marked states, and a set of numbers that is closed under time and jump covers slight drift.
+use Prim.Native.Nat.{ℕ, suc, _<_}
+use native.Mathlib.Omega.{arith}
+use mathlib.Core.Path.{_≡_, refl, sym, ap, subst}
+use mathlib.Core.Bool.{Bool, true, false}
+use mathlib.Core.Logic.{_↔_}
+use mathlib.Core.List.{List, [], _∷_}
+use lib.ListN.{length}
+use Rattle.theory.specs.Automaton.{Automaton, Capped, Steady}
+use Rattle.theory.specs.Region.{Region, face, shares}
+use Rattle.theory.specs.RegionGraph.{Allowed, FlowWalk, OnClosedWalk, Step, Marked, FlowClosed}
+use Rattle.theory.specs.StateGraph.{Within, stateCount, locationOf, regionOf, numberOf, flowTest, systemOf}
+use Rattle.theory.proofs.Region.{face-law, shares-law}
+use Rattle.theory.proofs.Stay.{steady}
+use Rattle.theory.proofs.StateGraph.{location-of-number, region-of-number, number-below, number-of-parts, location-below, flow-is, is-flow, flow-target, flow-allowed, beside-law, is-beside, start-allowed}
+use Rattle.theory.specs.Walk as walk
+use Rattle.theory.specs.System as system
+use Rattle.theory.specs.Marked as marked
+
+module _ (m : Automaton) (locations : ℕ) (W : Within m locations) (kept : Capped m) where
+  -- ---- closed walks
+
+  walk-states : {p s : ℕ} {l : List ℕ} → walk.Walk (flowTest m locations) p s l → FlowWalk m (locationOf m p) (regionOf m p) (locationOf m s) (regionOf m s) (length l)
+  walk-states walk.stop = FlowWalk.stop
+  walk-states (walk.move {p = p} {q = q} e w) = FlowWalk.move (flow-is m locations p q e .2) (walk-states w)
+
+  states-walk : {l k n : ℕ} {xs ys : Region} → l < locations → FlowWalk m l xs k ys n
+      → (s : List ℕ) × walk.Walk (flowTest m locations) (numberOf m l xs) (numberOf m k ys) s × (length s ≡ n)
+  states-walk b FlowWalk.stop = ([], walk.stop, refl)
+  states-walk b (FlowWalk.move {l₁ = l₁} {ys = ys} f w) =
+      let (s, v, c) = states-walk (flow-target m locations W b f) w in
+      (numberOf m l₁ ys ∷ s, walk.move (is-flow m locations W b f) v, ap suc c)
+
+  first-state : {p : ℕ} {k : ℕ} (s : List ℕ) → length s ≡ suc k → walk.Walk (flowTest m locations) p p s
+      → (q : ℕ) × (l : List ℕ) × walk.Walk (flowTest m locations) p p (q ∷ l)
+  first-state [] c w = absurd (omega arith)
+  first-state (q ∷ l) c w = (q, l, w)
+
+  pub on-closed-walk-law : (p : ℕ) → p < stateCount m locations
+      → system.OnClosedWalk (systemOf m locations) p ↔ OnClosedWalk m (locationOf m p) (regionOf m p)
+  unfolding systemOf
+  on-closed-walk-law p h = (
+    λ (q, l, w). (length l, walk-states w),
+    λ (k, w).
+        let (s, v, c) = states-walk (location-below m locations p h) w in
+        first-state s c (rw (number-of-parts m locations p h) at v),
+  )
+
+  -- ---- the marked set
+
+  -- a step on numbers is one on states
+  step-states : {p q : ℕ} → marked.Step (systemOf m locations) p q → Step m (locationOf m p) (regionOf m p) (locationOf m q) (regionOf m q)
+  unfolding systemOf
+  step-states {p} {q} (marked.by-flow e) = Step.flow (flow-is m locations p q e .2)
+  step-states {p} {q} (marked.by-face e) =
+      let (((b, a), (c, d)), (s, t)) = beside-law m locations W face p q .0 e in
+      subst (λ k. Step m (locationOf m p) (regionOf m p) k (regionOf m q)) s
+      (Step.face a (subst (λ k. Allowed m k (regionOf m q)) (sym s) d) (face-law (regionOf m p) (regionOf m q) .0 t))
+  step-states {p} {q} (marked.by-touch e w) =
+      let (((b, a), (c, d)), (s, t)) = beside-law m locations W shares p q .0 e in
+      let o = on-closed-walk-law q c .0 w in
+      subst (λ k. Step m (locationOf m p) (regionOf m p) k (regionOf m q)) s
+      (Step.touch a (subst (λ k. Allowed m k (regionOf m q)) (sym s) d) (shares-law (regionOf m p) (regionOf m q) .0 t)
+      (subst (λ k. OnClosedWalk m k (regionOf m q)) (sym s) o))
+
+  marked-states : {p : ℕ} → marked.Marked (systemOf m locations) p → Marked m (locationOf m p) (regionOf m p)
+  unfolding systemOf
+  marked-states marked.begin =
+      let a = start-allowed kept (m .start) in
+      rw (location-of-number m (m .start) (a .region), region-of-number m (m .start) (a .region)) Marked.begin
+  marked-states (marked.onward c t) = Marked.onward (marked-states c) (step-states t)
+
+  -- and the other way
+  step-numbers : {l k : ℕ} {xs ys : Region} → l < locations → Step m l xs k ys
+      → (k < locations) × Allowed m k ys × marked.Step (systemOf m locations) (numberOf m l xs) (numberOf m k ys)
+  unfolding systemOf
+  step-numbers b (Step.flow f) = (flow-target m locations W b f, flow-allowed m locations W f .1, marked.by-flow (is-flow m locations W b f))
+  step-numbers {xs = xs} b (Step.face {ys = ys} a c f) =
+      (b, c, marked.by-face (is-beside m locations W face b a c (face-law xs ys .1 f)))
+  step-numbers {l} {xs = xs} b (Step.touch {ys = ys} a c s w) =
+      let n = number-below m locations l b (c .region) in
+      let o : OnClosedWalk m (locationOf m (numberOf m l ys)) (regionOf m (numberOf m l ys)) =
+      rw (location-of-number m l (c .region), region-of-number m l (c .region)) w in
+      (b, c, marked.by-touch (is-beside m locations W shares b a c (shares-law xs ys .1 s)) (on-closed-walk-law (numberOf m l ys) n .1 o))
+
+  marked-numbers : {l : ℕ} {xs : Region} → Marked m l xs → (l < locations) × Allowed m l xs × marked.Marked (systemOf m locations) (numberOf m l xs)
+  unfolding systemOf
+  marked-numbers Marked.begin = (W .start, start-allowed kept (m .start), marked.begin)
+  marked-numbers (Marked.onward c t) =
+      let (b, a, n) = marked-numbers c in
+      let (d, e, s) = step-numbers b t in
+      (d, e, marked.onward n s)
+
+  -- the marked numbers are the marked states
+  pub marked-law : (p : ℕ) → p < stateCount m locations → marked.Marked (systemOf m locations) p ↔ Marked m (locationOf m p) (regionOf m p)
+  marked-law p h = (marked-states, λ c. subst (λ n. marked.Marked (systemOf m locations) n) (number-of-parts m locations p h) (marked-numbers c .2))
+
+  -- ---- widened runs
+
+  -- A set of numbers that has the start, is closed under time and jump, and has no state of a forbidden location covers slight drift.
+  pub covers : (inn : ℕ → Bool) → inn (systemOf m locations .start) ≡ true
+      → ((p q : ℕ) → inn p ≡ true → systemOf m locations .flow p q ≡ true → inn q ≡ true)
+      → ((p : ℕ) → p < stateCount m locations → inn p ≡ true → systemOf m locations .forbidden p ≡ false)
+      → Steady m
+  unfolding systemOf
+  covers inn s f g = steady kept closed clean
+    where
+      Inside : ℕ → Region → Type 0
+      Inside l xs = (l < locations) × Allowed m l xs × (inn (numberOf m l xs) ≡ true)
+
+      closed : FlowClosed m Inside
+      closed = record {
+        start = (W .start, start-allowed kept (m .start), s);
+        flow = λ l xs k ys (b, a, i) t.
+            (flow-target m locations W b t, flow-allowed m locations W t .1, f (numberOf m l xs) (numberOf m k ys) i (is-flow m locations W b t));
+      }
+
+      clean : (l : ℕ) (xs : Region) → Inside l xs → m .forbidden l ≡ false
+      clean l xs (b, a, i) =
+          subst (λ k. m .forbidden k ≡ false) (location-of-number m l (a .region)) (g (numberOf m l xs) (number-below m locations l b (a .region)) i)
