@@ -1,4 +1,5 @@
 // For each number of clocks and ceiling one line: `n M count successors corners faces near`, the last four as checksums over all regions in order.
+// Then the bench's cases on regions.
 ghost use mathlib.Core.Path.{_≡_};
 ghost use Prim.Native.Nat.{_≤_, _<_};
 ghost use lib.ListN.{length};
@@ -212,8 +213,81 @@ fn lines(n: u8)
     line(n, 4);
 }
 
+// A region of two clocks: its whole parts, then its ranks.
+fn print_two(g: Region, after: &[u8]) {
+    io::write_all(STDOUT_FILENO, b"w ");
+    print(wide(g.w1), b" ");
+    print(wide(g.w2), b", r ");
+    print(wide(g.r1), b" ");
+    print(wide(g.r2), after);
+}
+
+fn print_corner(g: Region, t: u8, after: &[u8])
+    requires { ⌜ Small g ⌝ }
+{
+    let p = g.corner(t);
+    print(wide(p.x1), b" ");
+    print(wide(p.x2), after);
+}
+
+// The corners of a region of two clocks with ranks 1 and 2, from the lowest.
+fn corner_case(g: Region)
+    requires { ⌜ Small g ⌝ }
+{
+    io::write_all(STDOUT_FILENO, b"corners of ");
+    print_two(g, b": ");
+    print_corner(g, 3, b", ");
+    print_corner(g, 2, b", ");
+    print_corner(g, 1, b"\n");
+}
+
+// The time successor of a region of two clocks at ceiling 2.
+fn time_case(g: Region)
+    requires { ⌜ Small g ⌝ }
+{
+    io::write_all(STDOUT_FILENO, b"time from ");
+    print_two(g, b": ");
+    let Later::Next(h) = g.successor(2, 2) else {
+        io::write_all(STDOUT_FILENO, b"none\n");
+        return;
+    };
+    print_two(h, b"\n");
+}
+
 fn main() {
     lines(1);
     lines(2);
     lines(3);
+    corner_case(Region {
+        w1: 0,
+        w2: 0,
+        w3: 0,
+        r1: 2,
+        r2: 1,
+        r3: 0,
+    });
+    time_case(Region {
+        w1: 1,
+        w2: 0,
+        w3: 0,
+        r1: 0,
+        r2: 0,
+        r3: 0,
+    });
+    time_case(Region {
+        w1: 0,
+        w2: 1,
+        w3: 0,
+        r1: 1,
+        r2: 2,
+        r3: 0,
+    });
+    time_case(Region {
+        w1: 0,
+        w2: 2,
+        w3: 0,
+        r1: 1,
+        r2: 0,
+        r3: 0,
+    });
 }

@@ -133,3 +133,29 @@ fn wrong_arguments() {
         assert_eq!(second(arguments, &[]).status.code(), Some(2));
     }
 }
+
+/// The stored output of the proved program over all regions begins with this checker's lines.
+#[test]
+fn region_lines_are_those_stored() {
+    let stored = include_bytes!("../../../crates/region_cases/stdout");
+    let lines = answer(&["regions"], b"");
+    assert_eq!(lines.iter().filter(|byte| **byte == b'\n').count(), 12);
+    assert!(stored.starts_with(&lines));
+}
+
+/// The example plans under plans/ judge as their comments say.
+#[test]
+fn example_plans() {
+    let plan = |name: &str| {
+        let path = std::path::Path::new(env!("CARGO_MANIFEST_DIR")).join("../../plans");
+        path.join(name).to_str().unwrap().to_string()
+    };
+    assert_eq!(
+        answer(&["judge", &plan("loop.plan")], b""),
+        b"verdict unsafe\nstates 132\nsteps 8\n"
+    );
+    assert_eq!(
+        answer(&["judge", &plan("tiny.plan")], b""),
+        b"verdict safe\nstates 3\nin 3\n"
+    );
+}
