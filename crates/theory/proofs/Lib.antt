@@ -11,6 +11,9 @@ pub mod Marked
 -- How a loop finds the marked set.
 pub mod Closure
 pub mod Height
+-- Strongly connected components: their closed walks and heights; systems with the same flow steps.
+pub mod Component
+pub mod SameFlow
 -- Sheets: sound, complete, and their test.
 pub mod Sheet
 pub mod Trail

@@ -19,6 +19,10 @@ pub walk-append : {r : ℕ → ℕ → Bool} {p q s : ℕ} {l m : List ℕ} → 
 walk-append stop w = w
 walk-append (move e v) w = move e (walk-append v w)
 
+pub walk-map : {r t : ℕ → ℕ → Bool} → ((p q : ℕ) → r p q ≡ true → t p q ≡ true) → {p s : ℕ} {l : List ℕ} → Walk r p s l → Walk t p s l
+walk-map f stop = stop
+walk-map f (move {p = p} {q = q} e w) = move (f p q e) (walk-map f w)
+
 pub walk-first : {r : ℕ → ℕ → Bool} {p q s : ℕ} {l : List ℕ} → Walk r p s (q ∷ l) → (r p q ≡ true) × Walk r q s l
 walk-first (move e w) = (e, w)
 

@@ -39,3 +39,7 @@ pub mod RegionGraph
 pub mod StateGraph
 -- An automaton at which the bound on the drift is sharp.
 pub mod Sharp
+-- ---- lists of numbers as code holds them
+
+-- Successors of nodes, and slots by what they hold.
+pub mod Adjacency

@@ -1,0 +1,5 @@
+pub mod Marks
+pub mod Graph
+pub mod Stack
+pub mod Scan
+pub mod Pass

@@ -1,0 +1,32 @@
+-- What the pass is given and what it promises.
+use mathlib.Core.Path.{_≡_}
+use mathlib.Core.List.{List}
+use Prim.Native.Nat.{ℕ, suc, _+_, _*_, _≤_, _<_}
+use lib.ListN.{length, getD}
+use Rattle.theory.specs.Below.{bit}
+use Rattle.theory.specs.System.{System, Laws, onClosedWalk}
+use Rattle.theory.specs.Height.{height}
+use Rattle.theory.specs.Adjacency.{Holds}
+
+-- The most nodes: 8 locations of 1,977 regions each.
+abbrev pub nodeLimit : ℕ
+nodeLimit = 15816
+
+-- The most places of successors: 16-bit numbers hold them. A model has at most 63,264: 1,977 for each of 8 locations and 24 edges.
+abbrev pub placeLimit : ℕ
+placeLimit = 65535
+
+-- the lists of some graph on the nodes below n
+pub record Shape (first targets : List ℕ) (n : ℕ) : Type 0 where
+  pub small : n ≤ nodeLimit
+  pub few : getD first n 0 ≤ placeLimit
+  pub long : length first ≡ suc n
+  pub ascends : (p : ℕ) → p < n → getD first p 0 ≤ getD first (suc p) 0
+  pub ends : getD first n 0 ≤ length targets
+  pub below : (i : ℕ) → i < getD first n 0 → getD targets i 0 < n
+
+-- Where the lists hold the time and jump steps of a system, a state's mark is twice its height, and one more if it lies on a closed walk of
+-- time and jump steps.
+pub record Marks (first targets : List ℕ) (n : ℕ) (mark : List ℕ) : Type 0 where
+  pub are : (Y : System) → Laws Y → Y .size ≡ n → Holds first targets n (Y .flow)
+      → (p : ℕ) → p < n → getD mark p 0 ≡ 2 * height Y p + bit (onClosedWalk Y p)
