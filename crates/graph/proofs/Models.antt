@@ -1,0 +1,55 @@
+-- The system of a lawful model keeps the laws that the theory of evidence asks for. Its marked numbers are the marked states, and a set of
+-- numbers that is closed under time and jump covers slight drift. A face of an allowed state is allowed.
+use Prim.Native.Nat.{ℕ, _<_}
+use mathlib.Core.Path.{_≡_, subst}
+use mathlib.Core.Bool.{Bool, true, false}
+use mathlib.Core.Logic.{_↔_}
+use Rattle.theory.specs.System.{Laws}
+use Rattle.theory.specs.Labels.{LabelledLaws}
+use Rattle.theory.specs.Automaton.{Steady}
+use Rattle.theory.specs.Region.{fits, face}
+use Rattle.theory.specs.RegionGraph.{Marked}
+use Rattle.theory.specs.StateGraph.{locationOf, regionOf, allowedState}
+use Rattle.theory.proofs.Region.{fits-law}
+use Rattle.theory.proofs.RegionSteps.{face-fits}
+use Rattle.theory.proofs.StateGraph.{allowed-state-law, region-lawful}
+use Rattle.model.specs.declared.Model.{Model}
+use Rattle.model.specs.Model.{Lawful}
+use Rattle.graph.specs.Plan.{automatonOf, systemOfModel, labelledOfModel}
+use Rattle.graph.specs.States.{states}
+use Rattle.graph.proofs.Plan.{capped, within}
+use Rattle.theory.specs.Marked as marked
+use Rattle.theory.proofs.StateGraph as state-graph
+use Rattle.theory.proofs.StateMarked as state-marked
+
+module _ (m : Model) (ok : Lawful m) where
+  pub system-laws : Laws (systemOfModel m)
+  system-laws = state-graph.system-laws (automatonOf m) (m .locations) (within m ok) (capped m ok)
+
+  pub labelled-laws : LabelledLaws (labelledOfModel m)
+  labelled-laws = state-graph.labelled-laws (automatonOf m) (m .locations) (within m ok) (capped m ok)
+
+  -- the marked numbers are the marked states
+  pub marked-law : (p : ℕ) → p < states m
+      → marked.Marked (systemOfModel m) p ↔ Marked (automatonOf m) (locationOf (automatonOf m) p) (regionOf (automatonOf m) p)
+  marked-law = state-marked.marked-law (automatonOf m) (m .locations) (within m ok) (capped m ok)
+
+  -- a set of numbers that has the start, is closed under time and jump, and has no forbidden state covers slight drift
+  pub covers : (inn : ℕ → Bool) → inn (systemOfModel m .start) ≡ true
+      → ((p q : ℕ) → inn p ≡ true → systemOfModel m .flow p q ≡ true → inn q ≡ true)
+      → ((p : ℕ) → p < states m → inn p ≡ true → systemOfModel m .forbidden p ≡ false)
+      → Steady (automatonOf m)
+  covers = state-marked.covers (automatonOf m) (m .locations) (within m ok) (capped m ok)
+
+  -- a state of the location of an allowed state is allowed where its region is a face of the other's
+  pub face-allowed : (p q : ℕ) → q < states m → allowedState (automatonOf m) (m .locations) p ≡ true
+      → locationOf (automatonOf m) p ≡ locationOf (automatonOf m) q → face (regionOf (automatonOf m) p) (regionOf (automatonOf m) q) ≡ true
+      → allowedState (automatonOf m) (m .locations) q ≡ true
+  face-allowed p q i t s f =
+      let a = automatonOf m in
+      let limits = a .invariant (locationOf a p) in
+      let (h, b) = allowed-state-law a (m .locations) p .0 t in
+      let e = face-fits (regionOf a p) (regionOf a q) limits (fits-law (regionOf a p) limits .1 (b .stays)) f in
+      let c = subst (λ l. fits (regionOf a q) (a .invariant l) ≡ true) s e in
+      let stays = fits-law (regionOf a q) (a .invariant (locationOf a q)) .0 c in
+      allowed-state-law a (m .locations) q .1 (i, record { region = region-lawful a (m .locations) q i; stays = stays })
