@@ -4,8 +4,10 @@ use Prim.Native.Nat.{ℕ, _<_}
 use mathlib.Core.Path.{_≡_, subst}
 use mathlib.Core.Bool.{Bool, true, false}
 use mathlib.Core.Logic.{_↔_}
+use mathlib.Core.List.{List}
 use Rattle.theory.specs.System.{Laws}
 use Rattle.theory.specs.Labels.{LabelledLaws}
+use Rattle.theory.specs.Sheet.{sheetTest}
 use Rattle.theory.specs.Automaton.{Steady}
 use Rattle.theory.specs.Region.{fits, face}
 use Rattle.theory.specs.RegionGraph.{Marked}
@@ -35,11 +37,15 @@ module _ (m : Model) (ok : Lawful m) where
   marked-law = state-marked.marked-law (automatonOf m) (m .locations) (within m ok) (capped m ok)
 
   -- a set of numbers that has the start, is closed under time and jump, and has no forbidden state covers slight drift
-  pub covers : (inn : ℕ → Bool) → inn (systemOfModel m .start) ≡ true
-      → ((p q : ℕ) → inn p ≡ true → systemOfModel m .flow p q ≡ true → inn q ≡ true)
-      → ((p : ℕ) → p < states m → inn p ≡ true → systemOfModel m .forbidden p ≡ false)
+  pub covers : (isIn : ℕ → Bool) → isIn (systemOfModel m .start) ≡ true
+      → ((p q : ℕ) → isIn p ≡ true → systemOfModel m .flow p q ≡ true → isIn q ≡ true)
+      → ((p : ℕ) → p < states m → isIn p ≡ true → systemOfModel m .forbidden p ≡ false)
       → Steady (automatonOf m)
   covers = state-marked.covers (automatonOf m) (m .locations) (within m ok) (capped m ok)
+
+  -- so a passing sheet covers every widened run of at most K jumps with (K+1)e < D
+  pub sheet-covers : (l : List ℕ) → sheetTest (systemOfModel m) l ≡ true → Steady (automatonOf m)
+  sheet-covers = state-marked.sheet-covers (automatonOf m) (m .locations) (within m ok) (capped m ok)
 
   -- a state of the location of an allowed state is allowed where its region is a face of the other's
   pub face-allowed : (p q : ℕ) → q < states m → allowedState (automatonOf m) (m .locations) p ≡ true

@@ -50,7 +50,7 @@ module _ (P : LabelledSystem) (M : LabelledLaws P) where
       (lex-append (trail-least (P .system) (M .laws) l t (n ∙ sym d ∙ c)) λ h.
       kinds-then-edges moveKind moveEdge (our-moves-before P M w h))
 
-  -- ours are the only ones: a closed walk or a trail that is least has the key of ours
+  -- a closed walk or a trail that is least has the key of ours
   pub our-walk-only : (q : ℕ) (xs : List ℕ) → closes P xs q ≡ true
       → ((ys : List ℕ) → closes P ys q ≡ true → Lex (walkKey P xs q) (walkKey P ys q))
       → walkKey P xs q ≡ walkKey P (closedWalkLabels P q) q

@@ -3,12 +3,15 @@
 use mathlib.Core.Path.{_≡_, refl, ap}
 use mathlib.Core.List.{List, [], _∷_, List·Memᴰ, List·Memᴰ·head, List·Memᴰ·tail, List·Memᴰ·cases-cons, List·Memᴰ·eq-of-singleton}
 use mathlib.Core.Logic.{_⊎_, inl, inr}
+use mathlib.Core.Bool.{false, true≢false}
 use Prim.Native.Nat.{ℕ, zero, suc, _+_, _*_, _≤_, _<_}
 use native.Mathlib.Nat.{mul-le-mul-right}
 use native.Mathlib.Omega.{arith}
 use lib.ListN.{length}
 use Rattle.theory.specs.Pointwise.{Each}
 use Rattle.theory.specs.Automaton.{Automaton, Edge, Upto, AtLeast, resetValues, Run, Exact}
+use Rattle.theory.specs.Region.{Region, clock, Fits, Attains}
+use Rattle.theory.specs.RegionGraph.{Flow, FlowClosed, after, origin}
 use Rattle.theory.specs.Sharp.{again, leave, limits, ladder}
 
 -- ---- no exact run leaves location 0
@@ -78,7 +81,7 @@ module _ (e D : ℕ) where
         },
       )
 
--- At (K + 1) * e ≡ D a run of K jumps enters location 1.
+-- At (K + 1) * e ≡ D a run of K jumps enters location 1. (A run of 01 has e from 1 on here: with e 0 both D and N would be 0.)
 pub sharp : (K e D : ℕ) → 1 ≤ K → (K + 1) * e ≡ D → (gs : List Edge) × (v : List ℕ) × (t : ℕ) × (length gs ≡ K) × Run ladder D e D gs 1 v t
 sharp zero e D h c = absurd (omega arith)
 sharp (suc k) e D h c =
@@ -105,3 +108,30 @@ not-enough K e h k f =
     let D = (K + 1) * e in
     let (gs, v, t, n, r) = sharp K e D h refl in
     exact-never (f ladder D D gs 1 t v (omega (arith, mul-le-mul-right e h)) (omega arith) (omega arith) r .2)
+
+-- Nor does a set of states that has the start, is closed under time and jump and has no forbidden location cover such a run: at (K + 1) * e ≡ D the
+-- states of `ladder` that flow from its start are one, and a widened run of K jumps enters location 1.
+still : {l k : ℕ} {xs ys : Region} → l ≡ 0 → xs ≡ origin ladder → Flow ladder l xs k ys → (k ≡ 0) × (ys ≡ origin ladder)
+still p r (Flow.time a c) = absurd (no-wait (rw (p, r) at (c .stays)))
+  where
+    no-wait : Fits (clock 0 1 ∷ clock 0 1 ∷ []) (0 ∷ 1 ∷ []) → ⊥
+    no-wait (Each.more h hs) = omega arith
+still {xs = xs} p r (Flow.jump g o a c) = by (drawn-is (o .drawn))
+  where
+    no-leave : Attains (clock 0 0 ∷ clock 0 0 ∷ []) (0 ∷ 1 ∷ []) → ⊥
+    no-leave (Each.more h (Each.more k Each.none)) = omega arith
+
+    by : (g ≡ again) ⊎ (g ≡ leave) → (g .target ≡ 0) × (after g xs ≡ origin ladder)
+    by (inl e) = rw (e, r) (refl, refl)
+    by (inr e) = absurd (no-leave (rw (e, r) at (o .low)))
+
+pub not-covered : (K e : ℕ) → 1 ≤ K → 1 ≤ e
+    → ((m : Automaton) (P : ℕ → Region → Type 0) → FlowClosed m P → ((l : ℕ) (xs : Region) → P l xs → m .forbidden l ≡ false)
+    → (N D : ℕ) (gs : List Edge) (l t : ℕ) (v : List ℕ) → 0 < N → (K + 1) * e ≤ D → length gs ≤ K → Run m N e D gs l v t → m .forbidden l ≡ false) → ⊥
+not-covered K e h k f =
+    let D = (K + 1) * e in
+    let (gs, v, t, n, r) = sharp K e D h refl in
+    true≢false (f ladder (λ l xs. (l ≡ 0) × (xs ≡ origin ladder)) closed (λ l xs p. rw (p .0) refl) D D gs 1 t v (omega (arith, mul-le-mul-right e h)) (omega arith) (omega arith) r)
+  where
+    closed : FlowClosed ladder (λ l xs. (l ≡ 0) × (xs ≡ origin ladder))
+    closed = record { start = (refl, refl); flow = λ l xs k ys p s. still (p .0) (p .1) s }

@@ -1,5 +1,5 @@
--- Numbers of states lead to states and back, and the steps on numbers are the steps of 01 on states. So the system of an automaton has the laws that
--- the theory of evidence asks for, its marked numbers are the marked states, and a set of numbers that is closed under time and jump covers slight drift.
+-- Numbers of states lead to states and back, and the steps on numbers are the steps of 01 on states, each of its kind. So the system of an automaton
+-- has the laws that the theory of evidence asks for.
 use Prim.Native.Nat.{ℕ, zero, suc, _+_, _*_, _%_, _≤_, _<_}
 use native.Mathlib.Nat.{mod-lt, div-add-mod', div-lt-iff-lt-mul, mul-add-div-right, mul-add-mod-self-right, div-eq-of-lt, mod-eq-of-lt, mul-le-mul-right, add-zero}
 use native.Mathlib.Omega.{arith}
@@ -166,6 +166,21 @@ module _ (m : Automaton) where
     unfolding timeFrom
     is-time p t a = rw t (is-state-at (locationOf m p) a)
 
+    -- the time step on numbers is the time step and no other
+    pub time-law : (p q : ℕ) → ((timeFrom m locations p ≡ q) × (q < stateCount m locations))
+        ↔ ((allowedState m locations p ≡ true) × Allowed m (locationOf m p) (successor (regionOf m p))
+        × (q ≡ numberOf m (locationOf m p) (successor (regionOf m p))))
+    unfolding timeFrom
+    time-law p q = (
+      λ (e, h).
+          let (t, f) = cond-below (allowedState m locations p) _ q e h in
+          let (c, n) = state-at-is (locationOf m p) q (successor (regionOf m p)) f h in
+          (t, c, n),
+      λ (t, a, n).
+          let l = location-below p (allowed-state-law p .0 t .0) in
+          (is-time p t a ∙ sym n, rw n (number-below locations (locationOf m p) l (a .region))),
+    )
+
     edge-drawn : (l : List Edge) (e : ℕ) → e < length l → List·Memᴰ (getD l e noEdge) l
     edge-drawn [] e h = absurd (omega arith)
     edge-drawn (g ∷ l) zero h = List·Memᴰ·head refl
@@ -202,6 +217,23 @@ module _ (m : Automaton) where
         → jumpFrom m locations e p ≡ numberOf m (edgeAt m e .target) (after (edgeAt m e) (regionOf m p))
     unfolding jumpFrom
     is-jump e p t o a = rw (jump-test e p .1 (allowed-state-law p .0 t, (o .here, (o .low, o .high)))) (is-state-at (edgeAt m e .target) a)
+
+    -- the jump along edge e on numbers is that jump and no other
+    pub jump-law : (e p q : ℕ) → e < length (m .edges) → edgeAt m e .target < locations
+        → ((jumpFrom m locations e p ≡ q) × (q < stateCount m locations))
+        ↔ ((allowedState m locations p ≡ true) × Enabled m (edgeAt m e) (locationOf m p) (regionOf m p)
+        × Allowed m (edgeAt m e .target) (after (edgeAt m e) (regionOf m p))
+        × (q ≡ numberOf m (edgeAt m e .target) (after (edgeAt m e) (regionOf m p))))
+    unfolding jumpFrom
+    jump-law e p q d b = (
+      λ (j, h).
+          let g = edgeAt m e in
+          let (t, f) = cond-below (allowedState m locations p && (eqb (g .source) (locationOf m p) && guardHolds g (regionOf m p))) _ q j h in
+          let (a, (s, (low, high))) = jump-test e p .0 t in
+          let (c, n) = state-at-is (g .target) q (after g (regionOf m p)) f h in
+          (allowed-state-law p .1 a, record { drawn = edge-drawn (m .edges) e d; here = s; low = low; high = high }, c, n),
+      λ (t, o, a, n). (is-jump e p t o a ∙ sym n, rw n (number-below locations (edgeAt m e .target) b (a .region))),
+    )
 
     flow-test : (p q : ℕ) → (flowTest m locations p q ≡ true)
         ↔ ((q < stateCount m locations) × ((x : ℕ) × (x < suc (length (m .edges))) × (stepFrom m locations x p ≡ q)))

@@ -6,13 +6,15 @@ use mathlib.Core.Bool.{Bool, true, false}
 use mathlib.Core.Logic.{_↔_}
 use mathlib.Core.List.{List, [], _∷_}
 use lib.ListN.{length}
+use Rattle.theory.specs.Sheet.{inOf, sheetTest}
 use Rattle.theory.specs.Automaton.{Automaton, Capped, Steady}
 use Rattle.theory.specs.Region.{Region, face, shares}
 use Rattle.theory.specs.RegionGraph.{Allowed, FlowWalk, OnClosedWalk, Step, Marked, FlowClosed}
 use Rattle.theory.specs.StateGraph.{Within, stateCount, locationOf, regionOf, numberOf, flowTest, systemOf}
 use Rattle.theory.proofs.Region.{face-law, shares-law}
+use Rattle.theory.proofs.Sheet.{sheet-law}
 use Rattle.theory.proofs.Stay.{steady}
-use Rattle.theory.proofs.StateGraph.{location-of-number, region-of-number, number-below, number-of-parts, location-below, flow-is, is-flow, flow-target, flow-allowed, beside-law, is-beside, start-allowed}
+use Rattle.theory.proofs.StateGraph.{location-of-number, region-of-number, number-below, number-of-parts, location-below, flow-is, is-flow, flow-target, flow-allowed, beside-law, is-beside, start-allowed, system-laws}
 use Rattle.theory.specs.Walk as walk
 use Rattle.theory.specs.System as system
 use Rattle.theory.specs.Marked as marked
@@ -98,15 +100,15 @@ module _ (m : Automaton) (locations : ℕ) (W : Within m locations) (kept : Capp
   -- ---- widened runs
 
   -- A set of numbers that has the start, is closed under time and jump, and has no state of a forbidden location covers slight drift.
-  pub covers : (inn : ℕ → Bool) → inn (systemOf m locations .start) ≡ true
-      → ((p q : ℕ) → inn p ≡ true → systemOf m locations .flow p q ≡ true → inn q ≡ true)
-      → ((p : ℕ) → p < stateCount m locations → inn p ≡ true → systemOf m locations .forbidden p ≡ false)
+  pub covers : (isIn : ℕ → Bool) → isIn (systemOf m locations .start) ≡ true
+      → ((p q : ℕ) → isIn p ≡ true → systemOf m locations .flow p q ≡ true → isIn q ≡ true)
+      → ((p : ℕ) → p < stateCount m locations → isIn p ≡ true → systemOf m locations .forbidden p ≡ false)
       → Steady m
   unfolding systemOf
-  covers inn s f g = steady kept closed clean
+  covers isIn s f g = steady kept closed clean
     where
       Inside : ℕ → Region → Type 0
-      Inside l xs = (l < locations) × Allowed m l xs × (inn (numberOf m l xs) ≡ true)
+      Inside l xs = (l < locations) × Allowed m l xs × (isIn (numberOf m l xs) ≡ true)
 
       closed : FlowClosed m Inside
       closed = record {
@@ -118,3 +120,10 @@ module _ (m : Automaton) (locations : ℕ) (W : Within m locations) (kept : Capp
       clean : (l : ℕ) (xs : Region) → Inside l xs → m .forbidden l ≡ false
       clean l xs (b, a, i) =
           subst (λ k. m .forbidden k ≡ false) (location-of-number m l (a .region)) (g (numberOf m l xs) (number-below m locations l b (a .region)) i)
+
+  -- So a passing sheet does.
+  pub sheet-covers : (l : List ℕ) → sheetTest (systemOf m locations) l ≡ true → Steady m
+  unfolding systemOf
+  sheet-covers l e =
+      let K = sheet-law (systemOf m locations) (system-laws m locations W kept) l .0 e .rules in
+      covers (inOf l) (K .start-in) (K .flow-in) (K .none-forbidden)

@@ -27,6 +27,12 @@ pub record Automaton : Type 0 where
 pub record Capped (m : Automaton) : Type 0 where
   pub limits : (l : ℕ) → Each (λ x c. x ≤ c) (m .invariant l) (replicate (m .clocks) (m .ceiling))
 
+-- each edge has a reset, a low and a high for each clock
+pub record Shaped (m : Automaton) : Type 0 where
+  pub reset : (g : Edge) → List·Memᴰ g (m .edges) → length (g .reset) ≡ m .clocks
+  pub lower : (g : Edge) → List·Memᴰ g (m .edges) → length (g .lower) ≡ m .clocks
+  pub upper : (g : Edge) → List·Memᴰ g (m .edges) → length (g .upper) ≡ m .clocks
+
 -- ---- limits that give way
 
 -- "highs and stay limits upward": clock values, in N-ths of a unit, are at most the limits widened by e/D
@@ -76,7 +82,7 @@ Exact m = Run m 1 0 1
 abbrev pub Slight : ℕ → ℕ → ℕ → Type 0
 Slight K e D = (K + 1) * e < D
 
--- "a passing sheet covers every widened run of at most K jumps with (K+1)e < D": none of them enters a forbidden location
+-- No widened run of at most K jumps with (K+1)e < D enters a forbidden location, for any K, e, D and any N from 1: what a passing sheet is to cover.
 pub record Steady (m : Automaton) : Type 0 where
   pub enters-none : (K e D N : ℕ) → Slight K e D → 0 < N
       → (gs : List Edge) (l : ℕ) (v : List ℕ) (t : ℕ) → length gs ≤ K → Run m N e D gs l v t → m .forbidden l ≡ false

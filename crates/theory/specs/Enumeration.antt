@@ -24,7 +24,7 @@ pub data Sorted {A : Type 0} (R : A → A → Type 0) : List A → Type 0 where
 abbrev pub Ascending : List Region → Type 0
 Ascending = Sorted (λ xs ys. Before (key xs) (key ys))
 
--- "Count: n=1: 2M+1; n=2: 6M²+4M+1; n=3: (M+1)³+3M(M+1)²+9M²(M+1)+13M³."
+-- for n up to 3: "Count: n=1: 2M+1; n=2: 6M²+4M+1; n=3: (M+1)³+3M(M+1)²+9M²(M+1)+13M³."
 abbrev pub countOf : ℕ → ℕ → ℕ
 countOf zero M = 1
 countOf (suc zero) M = 2 * M + 1

@@ -11,7 +11,7 @@ use Rattle.theory.specs.Automaton.{Automaton, Edge}
 use Rattle.theory.specs.Region.{Region, regions, face, shares, successor}
 use Rattle.theory.specs.RegionGraph.{after, origin, allowed, guardHolds}
 
--- the start and the ends of edges are locations
+-- the start and the targets of edges are locations
 pub record Within (m : Automaton) (locations : ℕ) : Type 0 where
   pub start : m .start < locations
   pub targets : (g : Edge) → List·Memᴰ g (m .edges) → g .target < locations
@@ -58,7 +58,7 @@ allowedState m locations p = ltb p (stateCount m locations) && allowed m (locati
 unfoldable pub stateAt : Automaton → ℕ → ℕ → Region → ℕ
 stateAt m locations l xs = cond (allowed m l xs) (numberOf m l xs) (stateCount m locations)
 
--- past the last edge: an edge that opens nowhere
+-- past the last edge: an edge that opens nowhere, with one clock or more
 abbrev pub noEdge : Edge
 noEdge = record { source = 0; target = 0; reset = []; lower = []; upper = [] }
 
