@@ -55,3 +55,10 @@ pub mod Sharp
 pub mod StateGraph
 -- Its marked numbers are the marked states; a closed set of numbers covers slight drift.
 pub mod StateMarked
+-- ---- searches level by level
+
+-- Rounds find the distances; the marks and our trail's steps from them.
+pub mod Levels
+-- The nodes of the shortest walks, and the least of these walks; closed walks by the same search.
+pub mod Guide
+pub mod Return

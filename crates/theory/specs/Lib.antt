@@ -39,6 +39,11 @@ pub mod RegionGraph
 pub mod StateGraph
 -- An automaton at which the bound on the drift is sharp.
 pub mod Sharp
+-- ---- searches level by level
+
+-- Distances from a node, as rounds find them; the nodes of the shortest walks.
+pub mod Levels
+pub mod Guide
 -- ---- lists of numbers as code holds them
 
 -- Successors of nodes, and slots by what they hold.

@@ -1,0 +1,2 @@
+-- Tests that compute the shape of small arrays.
+pub mod Tests
