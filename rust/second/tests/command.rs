@@ -143,13 +143,26 @@ fn region_lines_are_those_stored() {
     assert!(stored.starts_with(&lines));
 }
 
+/// A file of the folder plans/.
+fn plan(name: &str) -> String {
+    let path = std::path::Path::new(env!("CARGO_MANIFEST_DIR")).join("../../plans");
+    path.join(name).to_str().unwrap().to_string()
+}
+
+/// So are the lines of the proved program over all steps of three plans.
+#[test]
+fn step_lines_are_those_stored() {
+    let stored = include_str!("../../../crates/graph_cases/stdout");
+    let lines = ["tiny", "loop", "largest"].map(|name| {
+        let line = answer(&["steps", &plan(&format!("{name}.plan"))], b"");
+        format!("{name}: {}", String::from_utf8(line).unwrap())
+    });
+    assert_eq!(stored, lines.concat());
+}
+
 /// The example plans under plans/ judge as their comments say.
 #[test]
 fn example_plans() {
-    let plan = |name: &str| {
-        let path = std::path::Path::new(env!("CARGO_MANIFEST_DIR")).join("../../plans");
-        path.join(name).to_str().unwrap().to_string()
-    };
     assert_eq!(
         answer(&["judge", &plan("loop.plan")], b""),
         b"verdict unsafe\nstates 132\nsteps 8\n"

@@ -1,0 +1,18 @@
+use borrow.Author.Needs.{needs}
+use Rattle.model.proofs.Accepted.{reading-lawful}
+use Rattle.graph_cases.proofs.plan.Statement.{statement}
+use Rattle.graph_cases.proofs.plan.Tie as tie
+
+pub plan-spec : {M : Type 1} → statement M
+plan-spec =
+    tie.close
+    (tie.spec
+    (λ c κs. search needs)
+    (λ c. search needs)
+    (λ c κs. search needs)
+    (λ c κs. search needs)
+    (λ c. search needs)
+    (λ c κs. search needs)
+    (λ c. search needs)
+    (λ c κs. reading-lawful _ _ (c .before .before .read-model .ensures) (c .if1 .left))
+    (λ c. search needs))
