@@ -44,10 +44,10 @@ survivors m pass = each (m .locations) (λ i a. roundOf m pass a) (replicate max
 unfoldable pub hasCycle : Model → (ℕ → Bool) → Bool
 hasCycle m pass = someBelow maxLocations (markedAt (survivors m pass))
 
--- it leaves this clock unreset
+-- a closed walk leaves this clock unreset
 abbrev pub unresetAt : Model → ℕ → Bool
 unresetAt m x = hasCycle m (keeps m x)
 
--- it leaves some clock unreset
+-- a closed walk leaves some clock unreset
 unfoldable pub unreset : Model → Bool
 unreset m = someBelow (m .clocks) (unresetAt m)

@@ -18,7 +18,7 @@ sourceOf m e = getD (m .source) e 0
 abbrev pub targetOf : Model → ℕ → ℕ
 targetOf m e = getD (m .target) e 0
 
--- an edge leaves a clock unreset ("reset mask, bit i for clock i counted from 0")
+-- an edge leaves a clock unreset ("reset mask, ... bit i for clock i counted from 0")
 abbrev pub keeps : Model → ℕ → ℕ → Bool
 keeps m x e = eqb (getD (m .reset) e 0 / 2 ^ x % 2) 0
 

@@ -35,7 +35,7 @@ pub record Shaped (m : Automaton) : Type 0 where
 
 -- ---- limits that give way
 
--- "highs and stay limits upward": clock values, in N-ths of a unit, are at most the limits widened by e/D
+-- "highs and stay limits (the ceiling too) upward": clock values, in N-ths of a unit, are at most the limits widened by e/D
 abbrev pub Upto : ℕ → ℕ → ℕ → List ℕ → List ℕ → Type 0
 Upto N e D = Each (λ x c. x * D ≤ (c * D + e) * N)
 
@@ -57,7 +57,7 @@ resetValues [] (x ∷ v) = x ∷ v
 resetValues (true ∷ bs) (x ∷ v) = 0 ∷ resetValues bs v
 resetValues (false ∷ bs) (x ∷ v) = x ∷ resetValues bs v
 
--- "A jump takes an edge from the present location whose lows and highs hold, sets its reset clocks to 0 and enters its to-location.
+-- "A jump takes an edge from the present location whose lows and highs hold, sets its reset clocks to 0 and enters its to-location. ...
 -- A stay limit is held on entry and at the end of each wait." The values v are those at the end of the wait in location l.
 pub record Opens (m : Automaton) (N e D : ℕ) (g : Edge) (l : ℕ) (v : List ℕ) : Type 0 where
   pub drawn : List·Memᴰ g (m .edges)
