@@ -9,17 +9,9 @@ use lib.Dec.{eqb}
 use Rattle.theory.specs.Below.{bit}
 use Rattle.theory.specs.System.{System, onClosedWalk}
 use Rattle.theory.specs.Marked.{step}
-use Rattle.theory.specs.Adjacency.{Adjacent, Holds, Chains}
+use Rattle.theory.specs.Adjacency.{Adjacent, Holds, ShareCorner, Chains}
 use Rattle.theory.specs.Levels.{mark}
 use Rattle.marking.specs.Limits.{stateLimit}
-
--- slot 4 * i + k of `corner`, k below 4, holds the number of a whole point that is a corner of region i; two regions have one in common
-pub record ShareCorner (corner : List ℕ) (i j : ℕ) : Type 0 where
-  pub left : ℕ
-  pub right : ℕ
-  pub left-below : left < 4
-  pub right-below : right < 4
-  pub same : getD corner (4 * i + left) 0 ≡ getD corner (4 * j + right) 0
 
 -- ---- what the arrays say of a system
 
