@@ -199,7 +199,7 @@ module _ (m : Model) (ok : Lawful m) where
 
   -- ---- steps, by cases; g is the region of the state p
 
-  edge-is : (e : ℕ) → e < m .edges → edgeAt (automatonOf m) e ≡ edgeOf m e
+  pub edge-is : (e : ℕ) → e < m .edges → edgeAt (automatonOf m) e ≡ edgeOf m e
   unfolding automatonOf
   edge-is e d = at-from (edgeOf m) noEdge 0 (m .edges) e d ∙ ap (edgeOf m) (zero-add e)
 

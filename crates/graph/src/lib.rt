@@ -47,7 +47,7 @@ fn counted(clocks: u8, n: u8, limit: u8) -> u8
 }
 
 // A region is within the stay limits of a location.
-fn stays(m: Model, l: usize, g: Region) -> bool
+pub fn stays(m: Model, l: usize, g: Region) -> bool
     requires { ⌜ Lawful m × (l < m .locations) × Known (m .clocks) (m .ceiling) g ⌝ }
     ensures { λ b. ⌜ b ≡ fits (view (m .clocks) g) (automatonOf m .invariant l) ⌝ }
 {
@@ -56,7 +56,7 @@ fn stays(m: Model, l: usize, g: Region) -> bool
 }
 
 // The guard of an edge holds.
-fn guard(m: Model, e: usize, g: Region) -> bool
+pub fn guard(m: Model, e: usize, g: Region) -> bool
     requires { ⌜ Lawful m × (e < m .edges) × Known (m .clocks) (m .ceiling) g ⌝ }
     ensures { λ b. ⌜ b ≡ guardHolds (edgeOf m e) (view (m .clocks) g) ⌝ }
 {

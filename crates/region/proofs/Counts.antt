@@ -10,7 +10,7 @@ use Rattle.theory.proofs.Enumeration.{count-law}
 use Rattle.region.specs.Limits.{Clocks, Ceiling}
 use Rattle.region.proofs.Views.{three}
 
-four : (P : ℕ → Type 0) → P 1 → P 2 → P 3 → P 4 → (M : ℕ) → Ceiling M → P M
+pub four : (P : ℕ → Type 0) → P 1 → P 2 → P 3 → P 4 → (M : ℕ) → Ceiling M → P M
 four P a b c d zero h = absurd (omega (arith, h .low))
 four P a b c d (suc zero) h = a
 four P a b c d (suc (suc zero)) h = b

@@ -16,7 +16,7 @@ ghost use Rattle.region.specs.Lookup.{foundIn, Increasing, Place};
 pub mod table;
 
 use table::LENGTH;
-use table::entry;
+use table::entries;
 
 // "ceiling M, 1..4"
 pub const CEILING: usize = 4;
@@ -288,7 +288,7 @@ impl Region {
         }
     }
 
-    fn code(self, t: u8) -> u8
+    pub fn code(self, t: u8) -> u8
         requires { ⌜ Small self ⌝ }
         ensures { λ c. ⌜ c ≡ codeAt self t ⌝ }
     {
@@ -371,10 +371,11 @@ pub fn select(n: u8, ceiling: u8, out: &mut [u32]) -> usize
     ensures { λ k. ⌜ now (out .exit) ≡ packedRegions n ceiling ++ drop k (now (out .entry)) ⌝ }
     ensures { λ k. ⌜ k ≤ tableLength ⌝ }
 {
+    let all = entries();
     let mut i = 0;
     let mut k = 0;
     while i < LENGTH {
-        let p = entry(i);
+        let p = all[i];
         i += 1;
         if selected(n, ceiling, p) {
             out[k] = p;

@@ -1,8 +1,5 @@
 // All three-clock regions at ceiling 4 as packed numbers, in order (01, "this is a constant table of 1,977 packed numbers").
 ghost use mathlib.Core.Path.{_≡_};
-ghost use Prim.Native.Nat.{_<_};
-ghost use lib.ListN.{getD};
-ghost use Rattle.region.specs.Limits.{tableLength, packedBound};
 ghost use Rattle.region.specs.Packed.{packed};
 
 // "a constant table of 1,977 packed numbers"
@@ -1988,10 +1985,9 @@ pub const TABLE: [u32; LENGTH] = [
     444000,
 ];
 
-pub fn entry(i: usize) -> u32
-    requires { ⌜ i < tableLength ⌝ }
-    ensures { λ r. ⌜ r ≡ getD packed i 0 ⌝ }
-    ensures { λ r. ⌜ r < packedBound ⌝ }
+// The table, for a caller to hold: an index into the constant itself would copy it each time.
+pub fn entries() -> [u32; LENGTH]
+    ensures { λ r. ⌜ r ≡ packed ⌝ }
 {
-    TABLE[i]
+    TABLE
 }

@@ -1,0 +1,4 @@
+pub mod Lists
+pub mod Verdict
+pub mod Frames
+pub mod Calls

@@ -1,0 +1,100 @@
+-- Every value of an answer fits its field.
+use Prim.Native.Nat.{ℕ, zero, suc, _+_, _*_, _≤_, zero-le}
+use native.Mathlib.Nat.{le-of-lt}
+use native.Mathlib.Omega.{arith}
+use mathlib.Core.Path.{_≡_, sym, subst, _∙_}
+use mathlib.Core.Bool.{Bool, true, false, cond}
+use mathlib.Core.List.{List, [], _∷_}
+use lib.ListN.{getD}
+use lib.Dec.{eqb, ltb}
+use borrow.Author.Tests.{eqb-true, ltb-true}
+use Rattle.theory.specs.Below.{bit, count}
+use Rattle.theory.specs.System.{System, Laws}
+use Rattle.theory.specs.Marked.{marks, unsafe}
+use Rattle.theory.specs.Trail.{trailSteps}
+use Rattle.theory.proofs.Below.{bit-le, count-le, cond-ind}
+use Rattle.model.specs.Accept.{readModel}
+use Rattle.model.specs.declared.Model.{Model}
+use Rattle.model.specs.Model.{Lawful}
+use Rattle.model.proofs.Accepted.{accepted-lawful}
+use Rattle.graph.specs.Plan.{systemOfModel}
+use Rattle.graph.specs.States.{states}
+use Rattle.graph.proofs.Models.{system-laws}
+use Rattle.successors.proofs.Room.{states-limit}
+use Rattle.drift.specs.Answer.{Answer, answer}
+use Rattle.drift.specs.Call.{modelOf, statesOf, enough, refusal}
+use Rattle.drift.specs.Judge.{countOf, verdict, judged}
+use Rattle.drift.specs.Marks.{marksRefusal, marked}
+use Rattle.drift.proofs.Verdict.{steps-verdict, size-states}
+use Rattle.drift_c.specs.Words.{value, judgeWord, marksWord, Fields}
+
+-- where a call is not refused the model is lawful
+accepted : (bytes lent : List ℕ) → refusal bytes lent ≡ 0 → Lawful (modelOf bytes)
+unfolding refusal
+accepted bytes lent e =
+    accepted-lawful bytes
+    (cond-ind (λ (r : ℕ). r ≡ 0 → readModel bytes .refusal ≡ 0) (eqb (readModel bytes .refusal) 0) (λ t _. eqb-true _ _ t) (λ _ z. z) e)
+
+module _ (m : Model) (ok : Lawful m) where
+  count-small : countOf (systemOfModel m) ≤ states m
+  unfolding countOf
+  count-small =
+      let Y = systemOfModel m in
+      let laws = system-laws m ok in
+      rw (← size-states m ok)
+      (cond-ind (λ (k : ℕ). k ≤ Y .size) (unsafe Y)
+      (λ u. le-of-lt (ltb-true (trailSteps Y) (Y .size) (sym (steps-verdict Y laws) ∙ u)))
+      (λ _. count-le (Y .size) (marks Y)))
+
+  verdict-small : (i : ℕ) → getD (verdict (systemOfModel m)) i 0 ≤ 65535
+  unfolding verdict
+  verdict-small zero = omega (arith, bit-le (unsafe (systemOfModel m)))
+  verdict-small (suc zero) = omega (arith, size-states m ok, states-limit m ok)
+  verdict-small (suc (suc zero)) = omega (arith, count-small, states-limit m ok)
+  verdict-small (suc (suc (suc i))) = zero-le
+
+pub judge-fields : (bytes lent : List ℕ) → Fields (judged bytes lent)
+unfolding judged answer
+judge-fields bytes lent =
+    record {
+      fit = λ i. cond-ind (λ (a : Answer). value a i ≤ 65535) (eqb (refusal bytes lent) 0)
+        (λ t. verdict-small (modelOf bytes) (accepted bytes lent (eqb-true _ _ t)) i)
+        (λ _. zero-le);
+    }
+
+states-small : (m : Model) → Lawful m → (i : ℕ) → getD (states m ∷ []) i 0 ≤ 65535
+states-small m ok zero = omega (arith, states-limit m ok)
+states-small m ok (suc i) = zero-le
+
+pub marks-fields : (bytes lent : List ℕ) (room : ℕ) → Fields (marked bytes lent room)
+unfolding marked answer marksRefusal
+marks-fields bytes lent room =
+    record {
+      fit = λ i. cond-ind (λ (a : Answer). value a i ≤ 65535) (eqb (marksRefusal bytes lent room) 0)
+        (λ t. states-small (modelOf bytes) (accepted bytes lent (past (eqb-true (marksRefusal bytes lent room) 0 t))) i)
+        (λ _. zero-le);
+    }
+  where
+    past : marksRefusal bytes lent room ≡ 0 → refusal bytes lent ≡ 0
+    past e = cond-ind (λ (r : ℕ). r ≡ 0 → refusal bytes lent ≡ 0) (eqb (refusal bytes lent) 0) (λ t _. eqb-true _ _ t) (λ _ z. z) e
+
+-- ---- words by cases of an answer
+
+pub verdict-fields : (b s k : ℕ) → b ≤ 1 → Fields (record { number = 0; values = b ∷ s ∷ k ∷ [] }) → (b ≤ 1) × (s ≤ 65535) × (k ≤ 65535)
+verdict-fields b s k h f = (h, f .fit 1, f .fit 2)
+
+pub verdict-word-is : (w b s k : ℕ) → w ≡ b * 256 + s * 65536 + k * 1099511627776 → w ≡ judgeWord (record { number = 0; values = b ∷ s ∷ k ∷ [] })
+unfolding judgeWord
+verdict-word-is w b s k e = omega (arith, e)
+
+pub refused-word-is : (r : ℕ) → r ≡ judgeWord (record { number = r; values = [] })
+unfolding judgeWord
+refused-word-is r = omega arith
+
+pub marks-word-is : (s : ℕ) → s * 65536 ≡ marksWord (record { number = 0; values = s ∷ [] })
+unfolding marksWord
+marks-word-is s = omega arith
+
+pub marks-refused-is : (r : ℕ) → r ≡ marksWord (record { number = r; values = [] })
+unfolding marksWord
+marks-refused-is r = omega arith

@@ -1,0 +1,92 @@
+// The operations for callers in C and other languages: each slice is a pointer and a length, and the answer is one number made of fields.
+
+ghost use mathlib.Core.Path.{_≡_};
+ghost use Prim.Native.Nat.{_+_, _*_, _≤_};
+ghost use lib.ListN.{length};
+ghost use Rattle.drift.specs.Call.{lengths, left};
+ghost use Rattle.drift.specs.Judge.{judged, told};
+ghost use Rattle.drift.specs.Marks.{marked, output, told as toldMarks};
+ghost use Rattle.drift_c.specs.Words.{judgeWord, marksWord, Fields};
+use drift::Judgement;
+use drift::Marking;
+
+// The fields of a verdict.
+fn verdict_word(verdict: u64, states: usize, count: usize) -> u64
+    requires { ⌜ (verdict ≤ 1) × (states ≤ 65535) × (count ≤ 65535) ⌝ }
+    ensures { λ r. ⌜ r ≡ verdict * 256 + states * 65536 + count * 1099511627776 ⌝ }
+{
+    verdict * 256 + states as u64 * 65536 + count as u64 * 1099511627776
+}
+
+fn judge_word(answer: Judgement) -> u64
+    requires { ⌜ Fields (told answer) ⌝ }
+    ensures { λ r. ⌜ r ≡ judgeWord (told answer) ⌝ }
+{
+    match answer {
+        Judgement::Safe(states, count) => verdict_word(0, states, count),
+        Judgement::Unsafe(states, count) => verdict_word(1, states, count),
+        Judgement::Refused(number) => number as u64,
+    }
+}
+
+fn marks_word(answer: Marking) -> u64
+    requires { ⌜ Fields (toldMarks answer) ⌝ }
+    ensures { λ r. ⌜ r ≡ marksWord (toldMarks answer) ⌝ }
+{
+    match answer {
+        Marking::Marked(states) => states as u64 * 65536,
+        Marking::Refused(number) => number as u64,
+    }
+}
+
+// number + 2^8 · verdict (0 safe, 1 unsafe) + 2^16 · S + 2^40 · count
+#[no_mangle]
+pub extern "C" fn drift_judge(
+    model: &[u8],
+    s1: &mut [u16],
+    s2: &mut [u16],
+    s3: &mut [u16],
+    s4: &mut [u16],
+) -> u64
+    ensures { λ r. ⌜
+        r ≡ judgeWord (judged (now (model .entry)) (lengths (now (s1 .entry)) (now (s2 .entry)) (now (s3 .entry)) (now (s4 .entry))))
+        ⌝ }
+    ensures { λ _. ⌜
+        (now (s1 .exit) ≡ left (now (model .entry)) (lengths (now (s1 .entry)) (now (s2 .entry)) (now (s3 .entry)) (now (s4 .entry))) (now (s1 .entry)))
+        × (now (s2 .exit) ≡ left (now (model .entry)) (lengths (now (s1 .entry)) (now (s2 .entry)) (now (s3 .entry)) (now (s4 .entry))) (now (s2 .entry)))
+        × (now (s3 .exit) ≡ left (now (model .entry)) (lengths (now (s1 .entry)) (now (s2 .entry)) (now (s3 .entry)) (now (s4 .entry))) (now (s3 .entry)))
+        × (now (s4 .exit) ≡ left (now (model .entry)) (lengths (now (s1 .entry)) (now (s2 .entry)) (now (s3 .entry)) (now (s4 .entry))) (now (s4 .entry)))
+        ⌝ }
+{
+    let answer = drift::judge(model, s1, s2, s3, s4);
+    judge_word(answer)
+}
+
+// number + 2^16 · S
+#[no_mangle]
+pub extern "C" fn drift_marks(
+    model: &[u8],
+    s1: &mut [u16],
+    s2: &mut [u16],
+    s3: &mut [u16],
+    s4: &mut [u16],
+    out: &mut [u8],
+) -> u64
+    ensures { λ r. ⌜
+        r ≡ marksWord (marked (now (model .entry)) (lengths (now (s1 .entry)) (now (s2 .entry)) (now (s3 .entry)) (now (s4 .entry)))
+        (length (now (out .entry))))
+        ⌝ }
+    ensures { λ _. ⌜
+        now (out .exit)
+        ≡ output (now (model .entry)) (lengths (now (s1 .entry)) (now (s2 .entry)) (now (s3 .entry)) (now (s4 .entry))) (now (out .entry))
+        ⌝ }
+    ensures { λ _. ⌜
+        (now (s1 .exit) ≡ left (now (model .entry)) (lengths (now (s1 .entry)) (now (s2 .entry)) (now (s3 .entry)) (now (s4 .entry))) (now (s1 .entry)))
+        × (now (s2 .exit) ≡ left (now (model .entry)) (lengths (now (s1 .entry)) (now (s2 .entry)) (now (s3 .entry)) (now (s4 .entry))) (now (s2 .entry)))
+        × (now (s3 .exit) ≡ left (now (model .entry)) (lengths (now (s1 .entry)) (now (s2 .entry)) (now (s3 .entry)) (now (s4 .entry))) (now (s3 .entry)))
+        × (now (s4 .exit) ≡ left (now (model .entry)) (lengths (now (s1 .entry)) (now (s2 .entry)) (now (s3 .entry)) (now (s4 .entry))) (now (s4 .entry)))
+        ⌝ }
+{
+    let answer = drift::marks(model, s1, s2, s3, s4, out);
+    marks_word(answer)
+}

@@ -1,0 +1,170 @@
+// The steps of regions as tables by their numbers, filled once for a number of clocks and a ceiling, so that no step of a state is a search.
+// `table` is the list of the regions, packed, as region::select gives it; a region's number is its place there.
+ghost use mathlib.Core.Path.{_≡_};
+ghost use mathlib.Core.Bool.{cond};
+ghost use mathlib.Core.List.{[]};
+ghost use Prim.Native.Nat.{ℕ, _*_, _≤_, _<_};
+ghost use lib.ListN.{length, getD};
+ghost use Rattle.theory.specs.Region.{successor, regions};
+ghost use Rattle.theory.specs.StateGraph.{indexIn};
+ghost use Rattle.region.specs.Limits.{Clocks, Ceiling};
+ghost use Rattle.region.specs.View.{view, Small, Known};
+ghost use Rattle.region.specs.Packed.{packedRegions};
+ghost use Rattle.region_steps.specs.Codes.{codeCount, maskCount, codeOf, resetCode};
+ghost use Rattle.region_steps.specs.Tables.{Indexed, Laters, Resets, Column};
+
+mod ranks;
+
+use ranks::closed;
+use region::Later;
+use region::Region;
+
+// Codes of regions are the numbers below this: three whole parts up to 4, then three ranks up to 3.
+pub const CODES: usize = 8000;
+
+// The reset masks of three clocks.
+pub const MASKS: u8 = 8;
+
+fn wide(x: u16) -> usize
+    ensures { λ r. ⌜ r ≡ x ⌝ }
+{
+    x as usize
+}
+
+// The code of a region.
+fn code(g: Region) -> usize
+    requires { ⌜ Small g ⌝ }
+    ensures { λ c. ⌜ c ≡ codeOf g ⌝ }
+    ensures { λ c. ⌜ c < codeCount ⌝ }
+{
+    let w = (g.w1 as usize * 5 + g.w2 as usize) * 5 + g.w3 as usize;
+    w * 64 + g.r1 as usize * 16 + g.r2 as usize * 4 + g.r3 as usize
+}
+
+// A whole part or a rank: 0 where its clock is reset.
+fn kept(reset: bool, x: u8) -> usize
+    ensures { λ r. ⌜ r ≡ cond reset 0 x ⌝ }
+    ensures { λ r. ⌜ r ≤ x ⌝ }
+{
+    if reset { 0 } else { x as usize }
+}
+
+// The code of a region after a reset: the ranks that are left close up.
+fn reset_code(g: Region, mask: u8) -> usize
+    requires { ⌜ Small g ⌝ }
+    ensures { λ c. ⌜ c ≡ resetCode g mask ⌝ }
+    ensures { λ c. ⌜ c < codeCount ⌝ }
+{
+    let a = mask % 2 == 1;
+    let b = mask / 2 % 2 == 1;
+    let c = mask / 2 / 2 % 2 == 1;
+    let w = (kept(a, g.w1) * 5 + kept(b, g.w2)) * 5 + kept(c, g.w3);
+    let r = kept(a, g.r1) * 16 + kept(b, g.r2) * 4 + kept(c, g.r3);
+    w * 64 + closed(r) as usize
+}
+
+// Region i of the list.
+fn region_at(n: u8, ceiling: u8, table: &[u32], i: usize) -> Region
+    requires { ⌜
+        Clocks n × Ceiling ceiling × (now table ≡ packedRegions n ceiling) × (i < length (regions n ceiling))
+        ⌝ }
+    ensures { λ g. ⌜ Known n ceiling g ⌝ }
+    ensures { λ g. ⌜ view n g ≡ getD (regions n ceiling) i [] ⌝ }
+{
+    Region::unpack(table[i])
+}
+
+// Into `index`, at the code of each region, its number.
+pub fn fill_index(n: u8, ceiling: u8, table: &[u32], index: &mut [u16])
+    requires { ⌜
+        Clocks n × Ceiling ceiling × (now table ≡ packedRegions n ceiling) × (length (now index) ≡ codeCount)
+        ⌝ }
+    ensures { λ _. ⌜ Indexed n ceiling (now (index .exit)) ⌝ }
+{
+    let count = region::count(n, ceiling);
+    let mut i: u16 = 0;
+    while i < count {
+        let at = code(region_at(n, ceiling, table, wide(i)));
+        index[at] = i;
+        i += 1;
+    }
+}
+
+// The number of a region.
+pub fn number_of(index: &[u16], g: Region) -> usize
+    requires { ⌜ Small g × (length (now index) ≡ codeCount) ⌝ }
+    ensures { λ r. ⌜ ((n M : ℕ) → Indexed n M (now (index .entry)) → Known n M g → r ≡ indexIn (regions n M) (view n g)) ⌝ }
+{
+    let at = code(g);
+    wide(index[at])
+}
+
+// The number of the region next in time, or `past` where there is none.
+fn later_of(n: u8, ceiling: u8, index: &[u16], past: u16, g: Region) -> u16
+    requires { ⌜
+        Clocks n × Ceiling ceiling × Indexed n ceiling (now index) × (past ≡ length (regions n ceiling)) × Known n ceiling g
+        ⌝ }
+    ensures { λ r. ⌜ r ≡ indexIn (regions n ceiling) (successor (view n g)) ⌝ }
+{
+    let later = g.successor(n, ceiling);
+    let Later::Next(h) = later else {
+        return past;
+    };
+    let at = code(h);
+    index[at]
+}
+
+// Into `later`, for each region, the number of its time successor, or the number of regions where there is none.
+pub fn fill_later(n: u8, ceiling: u8, table: &[u32], index: &[u16], later: &mut [u16])
+    requires { ⌜
+        Clocks n × Ceiling ceiling × (now table ≡ packedRegions n ceiling) × Indexed n ceiling (now index)
+        × (length (now later) ≡ length (regions n ceiling))
+        ⌝ }
+    ensures { λ _. ⌜ Laters n ceiling (now (later .exit)) ⌝ }
+{
+    let past = region::count(n, ceiling);
+    let count = wide(past);
+    let mut i = 0;
+    while i < count {
+        let g = region_at(n, ceiling, table, i);
+        later[i] = later_of(n, ceiling, index, past, g);
+        i += 1;
+    }
+}
+
+// Into column i of `moved`, for each mask, the number of the region after the reset of g.
+fn put_resets(index: &[u16], g: Region, i: usize, count: usize, moved: &mut [u16])
+    requires { ⌜
+        Small g × (length (now index) ≡ codeCount) × (i < count) × (length (now moved) ≡ maskCount * count)
+        ⌝ }
+    ensures { λ _. ⌜
+        Column count i (λ k. getD (now (index .entry)) (resetCode g k) 0)
+        maskCount (now (moved .entry)) (now (moved .exit))
+        ⌝ }
+{
+    let mut mask = 0;
+    let mut at = i;
+    while mask < MASKS {
+        let to = reset_code(g, mask);
+        moved[at] = index[to];
+        at += count;
+        mask += 1;
+    }
+}
+
+// Into `moved`, for each mask a row: for each region, the number of the region after the reset.
+pub fn fill_resets(n: u8, ceiling: u8, table: &[u32], index: &[u16], moved: &mut [u16])
+    requires { ⌜
+        Clocks n × Ceiling ceiling × (now table ≡ packedRegions n ceiling) × Indexed n ceiling (now index)
+        × (length (now moved) ≡ maskCount * length (regions n ceiling))
+        ⌝ }
+    ensures { λ _. ⌜ Resets n ceiling (now (moved .exit)) ⌝ }
+{
+    let count = wide(region::count(n, ceiling));
+    let mut i = 0;
+    while i < count {
+        let g = region_at(n, ceiling, table, i);
+        put_resets(index, g, i, count, moved);
+        i += 1;
+    }
+}

@@ -1,0 +1,107 @@
+//! The proved drift checker, for Rust callers: the functions of the static
+//! library `drift_c`, with their answers taken apart. Whatever is lent, the
+//! answers and what the calls leave in the lent memory are as document 01
+//! says; the proofs are in the crate `drift` under crates/.
+
+mod raw {
+    extern "C" {
+        pub fn drift_judge(
+            model: *const u8,
+            model_length: usize,
+            a: *mut u16,
+            a_length: usize,
+            b: *mut u16,
+            b_length: usize,
+            c: *mut u16,
+            c_length: usize,
+            d: *mut u16,
+            d_length: usize,
+        ) -> u64;
+        pub fn drift_marks(
+            model: *const u8,
+            model_length: usize,
+            a: *mut u16,
+            a_length: usize,
+            b: *mut u16,
+            b_length: usize,
+            c: *mut u16,
+            c_length: usize,
+            d: *mut u16,
+            d_length: usize,
+            out: *mut u8,
+            out_length: usize,
+        ) -> u64;
+    }
+}
+
+/// The number of a refusal, 1 to 14.
+pub type Refusal = u8;
+
+/// Four slices of 16-bit numbers, lent for a call.
+pub type Scratch<'a> = [&'a mut [u16]; 4];
+
+#[derive(Clone, Copy, Debug, PartialEq, Eq)]
+pub struct Judgement {
+    pub is_unsafe: bool,
+    /// The number of states (S).
+    pub states: usize,
+    /// Marked states if safe, steps of our trail if unsafe.
+    pub count: usize,
+}
+
+fn accepted(answer: u64) -> Result<u64, Refusal> {
+    match answer & 0xff {
+        0 => Ok(answer),
+        number => Err(number as Refusal),
+    }
+}
+
+/// The verdict on a plan.
+pub fn judge(model: &[u8], scratch: Scratch) -> Result<Judgement, Refusal> {
+    let [a, b, c, d] = scratch;
+    // SAFETY: each pointer comes with the length of its own slice, and the
+    // mutable ones are borrowed apart from each other.
+    let answer = accepted(unsafe {
+        raw::drift_judge(
+            model.as_ptr(),
+            model.len(),
+            a.as_mut_ptr(),
+            a.len(),
+            b.as_mut_ptr(),
+            b.len(),
+            c.as_mut_ptr(),
+            c.len(),
+            d.as_mut_ptr(),
+            d.len(),
+        )
+    })?;
+    Ok(Judgement {
+        is_unsafe: answer >> 8 & 0xff == 1,
+        states: (answer >> 16 & 0xff_ffff) as usize,
+        count: (answer >> 40) as usize,
+    })
+}
+
+/// A mark of 1 or 0 for each state, at the front of the output; the number
+/// of states.
+pub fn marks(model: &[u8], scratch: Scratch, out: &mut [u8]) -> Result<usize, Refusal> {
+    let [a, b, c, d] = scratch;
+    // SAFETY: as in `judge`.
+    let answer = accepted(unsafe {
+        raw::drift_marks(
+            model.as_ptr(),
+            model.len(),
+            a.as_mut_ptr(),
+            a.len(),
+            b.as_mut_ptr(),
+            b.len(),
+            c.as_mut_ptr(),
+            c.len(),
+            d.as_mut_ptr(),
+            d.len(),
+            out.as_mut_ptr(),
+            out.len(),
+        )
+    })?;
+    Ok((answer >> 16) as usize)
+}
