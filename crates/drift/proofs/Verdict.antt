@@ -33,7 +33,6 @@ use Rattle.drift.specs.Answer.{answer}
 use Rattle.drift.specs.Judge.{countOf, verdict, told}
 use Rattle.drift.specs.Marks.{marksOf}
 use Rattle.drift.proofs.Lists.{is-table}
-
 use Rattle.theory.specs.Marked as Marked
 
 module _ (Y : System) (L : Laws Y) where

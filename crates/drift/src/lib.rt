@@ -73,13 +73,7 @@ fn verdict_of(m: Model, far: &[u16]) -> Judgement
 }
 
 // With slices of just S numbers, which are zero afterwards.
-fn judge_model(
-    m: Model,
-    a: &mut [u16],
-    b: &mut [u16],
-    c: &mut [u16],
-    d: &mut [u16],
-) -> Judgement
+fn judge_model(m: Model, a: &mut [u16], b: &mut [u16], c: &mut [u16], d: &mut [u16]) -> Judgement
     requires { ⌜ Lawful m ⌝ }
     requires { ⌜ (length (now a) ≡ states m) × (length (now b) ≡ states m) × (length (now c) ≡ states m) × (length (now d) ≡ states m) ⌝ }
     ensures { λ r. ⌜ told r ≡ answer 0 (verdict (systemOfModel m)) ⌝ }
@@ -95,13 +89,7 @@ fn judge_model(
 }
 
 // 01: the verdict on the plan that the bytes spell, with S and the count of marked states or of our trail's steps; or a refusal, 1 to 8.
-pub fn judge(
-    bytes: &[u8],
-    a: &mut [u16],
-    b: &mut [u16],
-    c: &mut [u16],
-    d: &mut [u16],
-) -> Judgement
+pub fn judge(bytes: &[u8], a: &mut [u16], b: &mut [u16], c: &mut [u16], d: &mut [u16]) -> Judgement
     ensures { λ r. ⌜ told r ≡ judged (now (bytes .entry)) (lengths (now (a .entry)) (now (b .entry)) (now (c .entry)) (now (d .entry))) ⌝ }
     ensures { λ _. ⌜
         (now (a .exit) ≡ left (now (bytes .entry)) (lengths (now (a .entry)) (now (b .entry)) (now (c .entry)) (now (d .entry))) (now (a .entry)))
@@ -144,14 +132,7 @@ fn put_marks(m: Model, far: &[u16], out: &mut [u8])
 }
 
 // With slices of just S numbers, which are zero afterwards, and an output of just S bytes.
-fn mark_model(
-    m: Model,
-    a: &mut [u16],
-    b: &mut [u16],
-    c: &mut [u16],
-    d: &mut [u16],
-    out: &mut [u8],
-)
+fn mark_model(m: Model, a: &mut [u16], b: &mut [u16], c: &mut [u16], d: &mut [u16], out: &mut [u8])
     requires { ⌜ Lawful m ⌝ }
     requires { ⌜ (length (now a) ≡ states m) × (length (now b) ≡ states m) × (length (now c) ≡ states m) × (length (now d) ≡ states m)
         × (length (now out) ≡ states m) ⌝ }

@@ -49,8 +49,8 @@ module _ (m : Model) (ok : Lawful m) where
   verdict-small : (i : ℕ) → getD (verdict (systemOfModel m)) i 0 ≤ 65535
   unfolding verdict
   verdict-small zero = omega (arith, bit-le (unsafe (systemOfModel m)))
-  verdict-small (suc zero) = omega (arith, size-states m ok, states-limit m ok)
-  verdict-small (suc (suc zero)) = omega (arith, count-small, states-limit m ok)
+  verdict-small (suc zero) = omega (arith, size-states m ok, states-limit ok)
+  verdict-small (suc (suc zero)) = omega (arith, count-small, states-limit ok)
   verdict-small (suc (suc (suc i))) = zero-le
 
 pub judge-fields : (bytes lent : List ℕ) → Fields (judged bytes lent)
@@ -58,12 +58,12 @@ unfolding judged answer
 judge-fields bytes lent =
     record {
       fit = λ i. cond-ind (λ (a : Answer). value a i ≤ 65535) (eqb (refusal bytes lent) 0)
-        (λ t. verdict-small (modelOf bytes) (accepted bytes lent (eqb-true _ _ t)) i)
-        (λ _. zero-le);
+          (λ t. verdict-small (modelOf bytes) (accepted bytes lent (eqb-true _ _ t)) i)
+          (λ _. zero-le);
     }
 
 states-small : (m : Model) → Lawful m → (i : ℕ) → getD (states m ∷ []) i 0 ≤ 65535
-states-small m ok zero = omega (arith, states-limit m ok)
+states-small m ok zero = omega (arith, states-limit ok)
 states-small m ok (suc i) = zero-le
 
 pub marks-fields : (bytes lent : List ℕ) (room : ℕ) → Fields (marked bytes lent room)
@@ -71,8 +71,8 @@ unfolding marked answer marksRefusal
 marks-fields bytes lent room =
     record {
       fit = λ i. cond-ind (λ (a : Answer). value a i ≤ 65535) (eqb (marksRefusal bytes lent room) 0)
-        (λ t. states-small (modelOf bytes) (accepted bytes lent (past (eqb-true (marksRefusal bytes lent room) 0 t))) i)
-        (λ _. zero-le);
+          (λ t. states-small (modelOf bytes) (accepted bytes lent (past (eqb-true (marksRefusal bytes lent room) 0 t))) i)
+          (λ _. zero-le);
     }
   where
     past : marksRefusal bytes lent room ≡ 0 → refusal bytes lent ≡ 0

@@ -102,7 +102,7 @@ module _ {m : Model} {table later moved allowed : List ℕ} (given : Given m tab
         puts-then (time-puts (given .lawful) (given .flags) count-here (given .laters) a p) s (omega arith)
         (λ q. rw (e, leaves .are) (row m (given .lawful) l i (a .location) (a .region) q))
 
-  -- ---- the rows of a location: those of i regions take n places at most
+  -- ---- the rows of a location: after those of i regions n places are taken
 
   abbrev pub Taken : List ℕ → ℕ → ℕ → ℕ → Type 0
   Taken edges l i n = n ≤ room m l + (length edges + 1) * i

@@ -255,7 +255,8 @@ fn fill_location(
     )
 }
 
-// Into `first` and `targets` the time and jump steps of all states: those of state p stand in `targets` from place first[p] up to first[p + 1].
+// Into `first` and `targets` the time and jump steps of all states: those of state p stand in `targets` from place first[p] up to first[p + 1]. There
+// is room for a time step from each state and, along each edge, a jump from each region.
 pub fn fill_flow(
     m: Model,
     table: &[u32],

@@ -14,7 +14,7 @@ use Rattle.graph.specs.Plan.{automatonOf}
 use Rattle.graph.specs.States.{Listed, states}
 use Rattle.graph.proofs.States.{count-length}
 use Rattle.successors.specs.Flow.{regionsIn}
-use Rattle.successors.proofs.Room.{regions-limit, states-limit, places-limit}
+use Rattle.successors.proofs.Room.{regions-limit, states-limit, steps-limit}
 use Rattle.region_corners.specs.Limits.{mostFaces}
 
 -- the first k numbers of an array of n zeros
@@ -30,10 +30,10 @@ module _ (m : Model) (ok : Lawful m) where
   table-long table listed = count-length m ok table listed
 
   pub table-short : (table : List ℕ) → Listed m table → length table ≤ 1977
-  table-short table listed = omega (arith, table-long table listed, regions-limit m ok)
+  table-short table listed = omega (arith, table-long table listed, regions-limit ok)
 
   pub states-short : states m ≤ 15816
-  states-short = states-limit m ok
+  states-short = states-limit ok
 
   -- the start is a state
   pub start-short : (r : ℕ) → r ≡ length (regions (m .clocks) (m .ceiling)) → 0 < r → m .start * r < states m
@@ -42,7 +42,7 @@ module _ (m : Model) (ok : Lawful m) where
 
   -- the steps and the faces have room
   pub steps-room : states m + m .edges * regionsIn m ≤ length {A = ℕ} (replicate 63264 0)
-  steps-room = rw (length-replicate {A = ℕ} 63264 0) (places-limit m ok)
+  steps-room = rw (length-replicate {A = ℕ} 63264 0) (steps-limit ok)
 
   pub faces-room : mostFaces * regionsIn m ≤ length {A = ℕ} (replicate 27678 0)
-  faces-room = rw (length-replicate {A = ℕ} 27678 0) (omega (arith, regions-limit m ok))
+  faces-room = rw (length-replicate {A = ℕ} 27678 0) (omega (arith, regions-limit ok))

@@ -23,7 +23,7 @@ use Rattle.graph.specs.Plan.{automatonOf, systemOfModel}
 use Rattle.graph.specs.States.{states}
 use Rattle.graph.proofs.Models.{system-laws, face-allowed}
 use Rattle.successors.specs.Flow.{regionsIn, FlowLists}
-use Rattle.successors.proofs.Room.{states-limit, places-limit}
+use Rattle.successors.proofs.Room.{states-limit, steps-limit}
 use Rattle.region_corners.specs.Limits.{pointCount}
 use Rattle.region_corners.specs.Faces.{faceOf}
 use Rattle.survey.specs.Surveyed.{Corners, Heights}
@@ -47,7 +47,7 @@ module _ (m : Model) (ok : Lawful m) where
   pub start-product : (r : ℕ) → r ≡ length (regions (m .clocks) (m .ceiling)) → m .start * r < 15816
   start-product r e =
       let z : 0 < r = rw (e ∙ sym (regions-are m ok)) some-regions in
-      omega (arith, start-short m ok r e z, states-limit m ok)
+      omega (arith, start-short m ok r e z, states-limit ok)
 
   same-location : (p q : ℕ) → p / regionsIn m ≡ q / regionsIn m → locationOf (automatonOf m) p ≡ locationOf (automatonOf m) q
   unfolding locationOf
@@ -67,8 +67,8 @@ module _ (m : Model) (ok : Lawful m) where
     component-shape =
         let h = F .holds in
         record {
-          small = states-limit m ok;
-          few = omega (arith, F .few, places-limit m ok);
+          small = states-limit ok;
+          few = omega (arith, F .few, steps-limit ok);
           long = h .long;
           ascends = h .ascends;
           ends = h .ends;
@@ -88,19 +88,19 @@ module _ (m : Model) (ok : Lawful m) where
       marking-shape flags e f =
           record {
             some = some-regions;
-            states = states-limit m ok;
+            states = states-limit ok;
             flow = rows-of first targets (states m) (systemOfModel m .flow) (F .holds);
             face = rows-of rows faces (regionsIn m) (faceOf (m .clocks) (m .ceiling)) (C .face);
             corners =
-              record {
-                locations = m .locations;
-                states = refl;
-                spots = rw (C .points) e;
-                corner-long = C .slots .long;
-                corner-below = λ s b. rw (C .points) (C .slots .below s b);
-                chains = C .chains;
-                info-long = f;
-              };
+                record {
+                  locations = m .locations;
+                  states = refl;
+                  spots = rw (C .points) e;
+                  corner-long = C .slots .long;
+                  corner-below = λ s b. rw (C .points) (C .slots .below s b);
+                  chains = C .chains;
+                  info-long = f;
+                };
           }
 
       region-below : (p : ℕ) → p % regionsIn m < regionsIn m
@@ -143,17 +143,17 @@ module _ (m : Model) (ok : Lawful m) where
             faceOf = faceOf (m .clocks) (m .ceiling);
             facing = C .face;
             face = λ p q.
-              let b = beside-law face p q in (
-                λ e. let (x, y, z, w) = b .0 e in (x, system-laws m ok .allowed-below q y, z, face-law p q .0 w),
-                λ (x, y, z, w).
-                    let f = face-law p q .1 w in
-                    b .1 (x, face-allowed-by p q y x z f, z, f),
-              );
+                let b = beside-law face p q in (
+                  λ e. let (x, y, z, w) = b .0 e in (x, system-laws m ok .allowed-below q y, z, face-law p q .0 w),
+                  λ (x, y, z, w).
+                      let f = face-law p q .1 w in
+                      b .1 (x, face-allowed-by p q y x z f, z, f),
+                );
             near = λ p q.
-              let b = beside-law shares p q in (
-                λ e. let (x, y, z, w) = b .0 e in (x, y, z, shares-law p q .0 w),
-                λ (x, y, z, w). b .1 (x, y, z, shares-law p q .1 w),
-              );
+                let b = beside-law shares p q in (
+                  λ e. let (x, y, z, w) = b .0 e in (x, y, z, shares-law p q .0 w),
+                  λ (x, y, z, w). b .1 (x, y, z, shares-law p q .1 w),
+                );
             closed = λ p b. rw (H .are p b) (parity (height (systemOfModel m) p) (onClosedWalk (systemOfModel m) p));
           }
         where

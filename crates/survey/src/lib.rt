@@ -199,7 +199,18 @@ fn fill_and_search(
 {
     fill_tables(m, table, first, targets, rows, faces, corner, head, link);
     search(
-        m, first, targets, rows, faces, corner, head, link, info, far, queue, spare,
+        m,
+        first,
+        targets,
+        rows,
+        faces,
+        corner,
+        head,
+        link,
+        info,
+        far,
+        queue,
+        spare,
     );
 }
 
@@ -247,13 +258,7 @@ fn survey_regions(
 
 // Closed walks and heights of all states of a model into info, distances from the start into far. What the four slices held before does not
 // matter; queue and spare are left with numbers of the search.
-pub fn survey(
-    m: Model,
-    info: &mut [u16],
-    far: &mut [u16],
-    queue: &mut [u16],
-    spare: &mut [u16],
-)
+pub fn survey(m: Model, info: &mut [u16], far: &mut [u16], queue: &mut [u16], spare: &mut [u16])
     requires { ⌜ Lawful m ⌝ }
     requires { ⌜ (length (now info) ≡ states m) × (length (now far) ≡ states m) × (length (now queue) ≡ states m)
         × (length (now spare) ≡ states m) ⌝ }

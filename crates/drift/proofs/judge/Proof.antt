@@ -1,7 +1,8 @@
+-- `drift::judge` meets its contract.
 use borrow.Author.Needs.{needs}
 use native.Mathlib.Omega.{arith}
 use Prim.Native.Nat.{ℕ}
-use mathlib.Core.Path.{_≡_, sym, ap, _∙_}
+use mathlib.Core.Path.{sym, ap, _∙_}
 use lib.ListN.{replicate}
 use lib.Seq.{length-take-le}
 use Rattle.model.specs.declared.Reading.{Reading}
@@ -14,26 +15,17 @@ use Rattle.drift.specs.Judge.{verdict}
 use Rattle.drift.proofs.Calls.{enough-each, not-eight, by-bytes, by-scratch, by-none, left-alone, judge-refused, left-zero, judge-done}
 use Rattle.drift.proofs.judge.Statement.{statement}
 use Rattle.drift.proofs.judge.Tie as tie
-use Rattle.drift.proofs.judge.Reads as reads
-use Rattle.drift.proofs.judge.Lts as lts
-use Rattle.drift.proofs.is_enough.Reads as is-enough-reads
-use Rattle.drift.proofs.judge_model.Reads as judge-model-reads
-use Rattle.graph.proofs.state_count.Reads as state-count-reads
-use Rattle.model.proofs.read_model.Reads as read-model-reads
 
--- src/lib.rt:113:9
 read-model-requires : tie.Need-read-model-requires
 read-model-requires c κs = search needs
 
--- src/lib.rt:116:9
 returns : tie.Need-returns
 returns c =
     let start = c .before .before .before .before .before .before .before in
     let bytes = start .args .bytes .now in
     let lent = lengths (start .args .a .now) (start .args .b .now) (start .args .c .now) (start .args .d .now) in
     let ne = c .if1 .taken in
-    let is = by-bytes bytes lent (c .before .read-model .result) (c .before .read-model .ensures) ne in
-    (
+    let is = by-bytes bytes lent (c .before .read-model .result) (c .before .read-model .ensures) ne in (
       judge-refused bytes lent _ is ne,
       (
         left-alone bytes lent _ is ne (start .args .a .now),
@@ -43,56 +35,45 @@ returns c =
       ),
     )
 
--- src/lib.rt:119:9
 state-count-requires : tie.Need-state-count-requires
 state-count-requires c κs =
     reading-lawful _ (c .before .before .read-model .result) (c .before .before .read-model .ensures) (omega arith)
 
--- src/lib.rt:120:8
 is-enough-requires : tie.Need-is-enough-requires
 is-enough-requires c κs = search needs
 
--- src/lib.rt:121:31
 slice-relend-prefix-judge-model : tie.Need-slice-relend-prefix-judge-model
 slice-relend-prefix-judge-model c =
     enough-each _ _ _ _ _ (sym (c .before .is-enough .ensures) ∙ c .if2 .taken) .0
 
--- src/lib.rt:121:31
 slice-aggregate-judge-model : tie.Need-slice-aggregate-judge-model
 slice-aggregate-judge-model c =
     sym (length-take-le _ _ (enough-each _ _ _ _ _ (sym (c .before .before .is-enough .ensures) ∙ c .before .if2 .taken) .0))
 
--- src/lib.rt:121:44
 slice-relend-prefix-judge-model-2 : tie.Need-slice-relend-prefix-judge-model-2
 slice-relend-prefix-judge-model-2 c =
     enough-each _ _ _ _ _ (sym (c .before .before .is-enough .ensures) ∙ c .before .if2 .taken) .1
 
--- src/lib.rt:121:44
 slice-aggregate-judge-model-2 : tie.Need-slice-aggregate-judge-model-2
 slice-aggregate-judge-model-2 c =
     sym (length-take-le _ _ (enough-each _ _ _ _ _ (sym (c .before .before .before .is-enough .ensures) ∙ c .before .before .if2 .taken) .1))
 
--- src/lib.rt:121:57
 slice-relend-prefix-judge-model-3 : tie.Need-slice-relend-prefix-judge-model-3
 slice-relend-prefix-judge-model-3 c =
     enough-each _ _ _ _ _ (sym (c .before .before .before .is-enough .ensures) ∙ c .before .before .if2 .taken) .2
 
--- src/lib.rt:121:57
 slice-aggregate-judge-model-3 : tie.Need-slice-aggregate-judge-model-3
 slice-aggregate-judge-model-3 c =
     sym (length-take-le _ _ (enough-each _ _ _ _ _ (sym (c .before .before .before .before .is-enough .ensures) ∙ c .before .before .before .if2 .taken) .2))
 
--- src/lib.rt:121:70
 slice-relend-prefix-judge-model-4 : tie.Need-slice-relend-prefix-judge-model-4
 slice-relend-prefix-judge-model-4 c =
     enough-each _ _ _ _ _ (sym (c .before .before .before .before .is-enough .ensures) ∙ c .before .before .before .if2 .taken) .3
 
--- src/lib.rt:121:70
 slice-aggregate-judge-model-4 : tie.Need-slice-aggregate-judge-model-4
 slice-aggregate-judge-model-4 c =
     sym (length-take-le _ _ (enough-each _ _ _ _ _ (sym (c .before .before .before .before .before .is-enough .ensures) ∙ c .before .before .before .before .if2 .taken) .3))
 
--- src/lib.rt:121:9
 judge-model-requires : tie.Need-judge-model-requires
 judge-model-requires c κs =
     let each = enough-each _ _ _ _ _ (sym (c .before .before .before .before .before .is-enough .ensures) ∙ c .before .before .before .before .if2 .taken) in
@@ -106,23 +87,18 @@ judge-model-requires c κs =
       ),
     )
 
--- src/lib.rt:121:9
 same-length : tie.Need-same-length
 same-length c = search needs
 
--- src/lib.rt:121:9
 same-length-2 : tie.Need-same-length-2
 same-length-2 c = search needs
 
--- src/lib.rt:121:9
 same-length-3 : tie.Need-same-length-3
 same-length-3 c = search needs
 
--- src/lib.rt:121:9
 same-length-4 : tie.Need-same-length-4
 same-length-4 c = search needs
 
--- src/lib.rt:121:9
 returns-2 : tie.Need-returns-2
 returns-2 c =
     let start = c .before .before .before .before .before .before .before .before .before .before .before .before .before .before .before .before .before .before .before .before .before .before .before .before in
@@ -134,8 +110,7 @@ returns-2 c =
     let all = ap (λ (s : ℕ). enough s lent) (sym (count .ensures)) ∙ sym (c .before .before .before .before .before .before .before .before .before .before .before .before .before .before .is-enough .ensures) ∙ c .before .before .before .before .before .before .before .before .before .before .before .before .before .if2 .taken in
     let is = by-none bytes lent (read .result) (read .ensures) zero all in
     let many = count .ensures ∙ ap (λ (r : Reading). states (r .model)) (read .ensures) in
-    let done = c .before .before .before .before .before .before .before .before .judge-model .ensures in
-    (
+    let done = c .before .before .before .before .before .before .before .before .judge-model .ensures in (
       done .0 ∙ ap (λ (r : Reading). answer 0 (verdict (systemOfModel (r .model)))) (read .ensures) ∙ sym (judge-done bytes lent is),
       (
         left-zero bytes lent is _ many (start .args .a .now) _ (done .1 .0 ∙ ap (λ (s : ℕ). replicate s 0) (sym (count .ensures))),
@@ -145,7 +120,6 @@ returns-2 c =
       ),
     )
 
--- src/lib.rt:98:1
 returns-3 : tie.Need-returns-3
 returns-3 c =
     let start = c .before .before .before .before .before .before .before .before .before .before .before in
@@ -155,8 +129,7 @@ returns-3 c =
     let count = c .before .before .state-count in
     let few = ap (λ (s : ℕ). enough s lent) (sym (count .ensures)) ∙ sym (c .before .is-enough .ensures) ∙ c .if2 .left in
     let is = by-scratch bytes lent (read .result) (read .ensures) (omega arith) few in
-    let ne = not-eight in
-    (
+    let ne = not-eight in (
       judge-refused bytes lent _ is ne,
       (
         left-alone bytes lent _ is ne (start .args .a .now),

@@ -1,3 +1,4 @@
+-- `drift::mark_into` meets its contract.
 use borrow.Author.Needs.{needs}
 use mathlib.Core.Path.{_∙_, sym}
 use native.Mathlib.Omega.{arith}
@@ -7,32 +8,22 @@ use Rattle.drift.proofs.Frames.{zeros-of}
 use Rattle.drift.proofs.Calls.{short-told, short-alone, marked-told, marked-in}
 use Rattle.drift.proofs.mark_into.Statement.{statement}
 use Rattle.drift.proofs.mark_into.Tie as tie
-use Rattle.drift.proofs.mark_into.Reads as reads
-use Rattle.drift.proofs.mark_into.Lts as lts
-use Rattle.drift.proofs.clear_all.Reads as clear-all-reads
-use Rattle.drift.proofs.mark_model.Reads as mark-model-reads
 
--- src/lib.rt:189:9
 clear-all-requires : tie.Need-clear-all-requires
 clear-all-requires c κs = search needs
 
--- src/lib.rt:190:9
 same-length : tie.Need-same-length
 same-length c = search needs
 
--- src/lib.rt:190:9
 same-length-2 : tie.Need-same-length-2
 same-length-2 c = search needs
 
--- src/lib.rt:190:9
 same-length-3 : tie.Need-same-length-3
 same-length-3 c = search needs
 
--- src/lib.rt:190:9
 same-length-4 : tie.Need-same-length-4
 same-length-4 c = search needs
 
--- src/lib.rt:190:9
 returns : tie.Need-returns
 returns c =
     let start = c .before .before .before .before .before .before .before .before .before .before .before .before .before .before .before .before .before .before .before in
@@ -49,16 +40,13 @@ returns c =
       ),
     )
 
--- src/lib.rt:192:31
 slice-relend-prefix-mark-model : tie.Need-slice-relend-prefix-mark-model
 slice-relend-prefix-mark-model c = search needs
 
--- src/lib.rt:192:31
 slice-aggregate-mark-model : tie.Need-slice-aggregate-mark-model
 slice-aggregate-mark-model c =
     sym (length-take-le _ _ (omega arith))
 
--- src/lib.rt:192:5
 mark-model-requires : tie.Need-mark-model-requires
 mark-model-requires c κs =
     let start = c .before .before .before .before .before .before .before .before .before .before .before in (
@@ -66,27 +54,21 @@ mark-model-requires c κs =
       (start .pre .1 .0, start .pre .1 .1, start .pre .1 .2, start .pre .1 .3, length-take-le _ _ (omega arith) ∙ start .pre .1 .0),
     )
 
--- src/lib.rt:170:1
 same-length-5 : tie.Need-same-length-5
 same-length-5 c = search needs
 
--- src/lib.rt:170:1
 same-length-6 : tie.Need-same-length-6
 same-length-6 c = search needs
 
--- src/lib.rt:170:1
 same-length-7 : tie.Need-same-length-7
 same-length-7 c = search needs
 
--- src/lib.rt:170:1
 same-length-8 : tie.Need-same-length-8
 same-length-8 c = search needs
 
--- src/lib.rt:170:1
 same-length-9 : tie.Need-same-length-9
 same-length-9 c = search needs
 
--- src/lib.rt:170:1
 returns-2 : tie.Need-returns-2
 returns-2 c =
     let start = c .before .before .before .before .before .before .before .before .before .before .before .before .before .before .before .before .before .before .before .before .before .before in

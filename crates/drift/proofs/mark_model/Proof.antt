@@ -1,48 +1,35 @@
+-- `drift::mark_model` meets its contract.
 use borrow.Author.Needs.{needs}
 use mathlib.Core.Path.{_∙_}
 use Rattle.drift.proofs.Frames.{zeros-of}
 use Rattle.drift.proofs.mark_model.Statement.{statement}
 use Rattle.drift.proofs.mark_model.Tie as tie
-use Rattle.drift.proofs.mark_model.Reads as reads
-use Rattle.drift.proofs.mark_model.Lts as lts
-use Rattle.drift.proofs.clear_all.Reads as clear-all-reads
-use Rattle.drift.proofs.put_marks.Reads as put-marks-reads
-use Rattle.survey.proofs.survey.Reads as survey-reads
 
--- src/lib.rt:164:5
 survey-requires : tie.Need-survey-requires
 survey-requires c κs = search needs
 
--- src/lib.rt:165:5
 put-marks-requires : tie.Need-put-marks-requires
 put-marks-requires c κs =
     (c .before .before .before .before .before .before .before .before .before .before .before .before .before .before .before .before .before .before .before .before .pre .0, (c .before .before .before .before .before .before .before .before .before .before .survey .ensures) .distances, c .before .before .before .before .before .before .before .before .before .before .before .before .before .before .before .before .before .before .before .before .pre .1 .4)
 
--- src/lib.rt:166:5
 clear-all-requires : tie.Need-clear-all-requires
 clear-all-requires c κs = search needs
 
--- src/lib.rt:147:1
 same-length : tie.Need-same-length
 same-length c = search needs
 
--- src/lib.rt:147:1
 same-length-2 : tie.Need-same-length-2
 same-length-2 c = search needs
 
--- src/lib.rt:147:1
 same-length-3 : tie.Need-same-length-3
 same-length-3 c = search needs
 
--- src/lib.rt:147:1
 same-length-4 : tie.Need-same-length-4
 same-length-4 c = search needs
 
--- src/lib.rt:147:1
 same-length-5 : tie.Need-same-length-5
 same-length-5 c = search needs
 
--- src/lib.rt:147:1
 returns : tie.Need-returns
 returns c =
     let start = c .before .before .before .before .before .before .before .before .before .before .before .before .before .before .before .before .before .before .before .before .before .before .before .before .before .before .before .before .before .before .before .before .before .before .before .before in

@@ -1,7 +1,8 @@
+-- `drift::marks` meets its contract.
 use borrow.Author.Needs.{needs}
 use native.Mathlib.Omega.{arith}
 use Prim.Native.Nat.{ℕ}
-use mathlib.Core.Path.{_≡_, sym, ap, _∙_}
+use mathlib.Core.Path.{sym, ap, _∙_}
 use mathlib.Core.List.{[], _∷_}
 use lib.ListN.{length, replicate}
 use lib.Seq.{length-take-le}
@@ -14,26 +15,17 @@ use Rattle.drift.specs.Marks.{short, marksIn}
 use Rattle.drift.proofs.Calls.{enough-each, not-eight, by-bytes, by-scratch, by-none, left-alone, marks-refused, output-alone, left-zero, marks-done, output-done}
 use Rattle.drift.proofs.marks.Statement.{statement}
 use Rattle.drift.proofs.marks.Tie as tie
-use Rattle.drift.proofs.marks.Reads as reads
-use Rattle.drift.proofs.marks.Lts as lts
-use Rattle.drift.proofs.is_enough.Reads as is-enough-reads
-use Rattle.drift.proofs.mark_into.Reads as mark-into-reads
-use Rattle.graph.proofs.state_count.Reads as state-count-reads
-use Rattle.model.proofs.read_model.Reads as read-model-reads
 
--- src/lib.rt:217:9
 read-model-requires : tie.Need-read-model-requires
 read-model-requires c κs = search needs
 
--- src/lib.rt:220:9
 returns : tie.Need-returns
 returns c =
     let start = c .before .before .before .before .before .before .before .before in
     let bytes = start .args .bytes .now in
     let lent = lengths (start .args .a .now) (start .args .b .now) (start .args .c .now) (start .args .d .now) in
     let ne = c .if1 .taken in
-    let is = by-bytes bytes lent (c .before .read-model .result) (c .before .read-model .ensures) ne in
-    (
+    let is = by-bytes bytes lent (c .before .read-model .result) (c .before .read-model .ensures) ne in (
       marks-refused bytes lent _ is ne (length (start .args .out .now)),
       (
         output-alone bytes lent _ is ne (start .args .out .now),
@@ -46,56 +38,45 @@ returns c =
       ),
     )
 
--- src/lib.rt:223:9
 state-count-requires : tie.Need-state-count-requires
 state-count-requires c κs =
     reading-lawful _ (c .before .before .read-model .result) (c .before .before .read-model .ensures) (omega arith)
 
--- src/lib.rt:224:8
 is-enough-requires : tie.Need-is-enough-requires
 is-enough-requires c κs = search needs
 
--- src/lib.rt:225:29
 slice-relend-prefix-mark-into : tie.Need-slice-relend-prefix-mark-into
 slice-relend-prefix-mark-into c =
     enough-each _ _ _ _ _ (sym (c .before .is-enough .ensures) ∙ c .if2 .taken) .0
 
--- src/lib.rt:225:29
 slice-aggregate-mark-into : tie.Need-slice-aggregate-mark-into
 slice-aggregate-mark-into c =
     sym (length-take-le _ _ (enough-each _ _ _ _ _ (sym (c .before .before .is-enough .ensures) ∙ c .before .if2 .taken) .0))
 
--- src/lib.rt:225:42
 slice-relend-prefix-mark-into-2 : tie.Need-slice-relend-prefix-mark-into-2
 slice-relend-prefix-mark-into-2 c =
     enough-each _ _ _ _ _ (sym (c .before .before .is-enough .ensures) ∙ c .before .if2 .taken) .1
 
--- src/lib.rt:225:42
 slice-aggregate-mark-into-2 : tie.Need-slice-aggregate-mark-into-2
 slice-aggregate-mark-into-2 c =
     sym (length-take-le _ _ (enough-each _ _ _ _ _ (sym (c .before .before .before .is-enough .ensures) ∙ c .before .before .if2 .taken) .1))
 
--- src/lib.rt:225:55
 slice-relend-prefix-mark-into-3 : tie.Need-slice-relend-prefix-mark-into-3
 slice-relend-prefix-mark-into-3 c =
     enough-each _ _ _ _ _ (sym (c .before .before .before .is-enough .ensures) ∙ c .before .before .if2 .taken) .2
 
--- src/lib.rt:225:55
 slice-aggregate-mark-into-3 : tie.Need-slice-aggregate-mark-into-3
 slice-aggregate-mark-into-3 c =
     sym (length-take-le _ _ (enough-each _ _ _ _ _ (sym (c .before .before .before .before .is-enough .ensures) ∙ c .before .before .before .if2 .taken) .2))
 
--- src/lib.rt:225:68
 slice-relend-prefix-mark-into-4 : tie.Need-slice-relend-prefix-mark-into-4
 slice-relend-prefix-mark-into-4 c =
     enough-each _ _ _ _ _ (sym (c .before .before .before .before .is-enough .ensures) ∙ c .before .before .before .if2 .taken) .3
 
--- src/lib.rt:225:68
 slice-aggregate-mark-into-4 : tie.Need-slice-aggregate-mark-into-4
 slice-aggregate-mark-into-4 c =
     sym (length-take-le _ _ (enough-each _ _ _ _ _ (sym (c .before .before .before .before .before .is-enough .ensures) ∙ c .before .before .before .before .if2 .taken) .3))
 
--- src/lib.rt:225:9
 mark-into-requires : tie.Need-mark-into-requires
 mark-into-requires c κs =
     let each = enough-each _ _ _ _ _ (sym (c .before .before .before .before .before .before .is-enough .ensures) ∙ c .before .before .before .before .before .if2 .taken) in
@@ -109,27 +90,21 @@ mark-into-requires c κs =
       ),
     )
 
--- src/lib.rt:225:9
 same-length : tie.Need-same-length
 same-length c = search needs
 
--- src/lib.rt:225:9
 same-length-2 : tie.Need-same-length-2
 same-length-2 c = search needs
 
--- src/lib.rt:225:9
 same-length-3 : tie.Need-same-length-3
 same-length-3 c = search needs
 
--- src/lib.rt:225:9
 same-length-4 : tie.Need-same-length-4
 same-length-4 c = search needs
 
--- src/lib.rt:225:9
 same-length-5 : tie.Need-same-length-5
 same-length-5 c = search needs
 
--- src/lib.rt:225:9
 returns-2 : tie.Need-returns-2
 returns-2 c =
     let start = c .before .before .before .before .before .before .before .before .before .before .before .before .before .before .before .before .before .before .before .before .before .before .before .before .before .before .before .before in
@@ -141,8 +116,7 @@ returns-2 c =
     let all = ap (λ (s : ℕ). enough s lent) (sym (count .ensures)) ∙ sym (c .before .before .before .before .before .before .before .before .before .before .before .before .before .before .before .before .before .is-enough .ensures) ∙ c .before .before .before .before .before .before .before .before .before .before .before .before .before .before .before .before .if2 .taken in
     let is = by-none bytes lent (read .result) (read .ensures) zero all in
     let many = count .ensures ∙ ap (λ (r : Reading). states (r .model)) (read .ensures) in
-    let done = c .before .before .before .before .before .before .before .before .before .before .mark-into .ensures in
-    (
+    let done = c .before .before .before .before .before .before .before .before .before .before .mark-into .ensures in (
       done .0
           ∙ ap (λ (r : Reading). answer (short (length (start .args .out .now)) (r .model)) (states (r .model) ∷ [])) (read .ensures)
           ∙ sym (marks-done bytes lent is (length (start .args .out .now))),
@@ -157,7 +131,6 @@ returns-2 c =
       ),
     )
 
--- src/lib.rt:198:1
 returns-3 : tie.Need-returns-3
 returns-3 c =
     let start = c .before .before .before .before .before .before .before .before .before .before .before .before in
@@ -167,8 +140,7 @@ returns-3 c =
     let count = c .before .before .state-count in
     let few = ap (λ (s : ℕ). enough s lent) (sym (count .ensures)) ∙ sym (c .before .is-enough .ensures) ∙ c .if2 .left in
     let is = by-scratch bytes lent (read .result) (read .ensures) (omega arith) few in
-    let ne = not-eight in
-    (
+    let ne = not-eight in (
       marks-refused bytes lent _ is ne (length (start .args .out .now)),
       (
         output-alone bytes lent _ is ne (start .args .out .now),

@@ -1,20 +1,17 @@
+-- `drift::put_marks` meets its contract.
 use borrow.Author.Needs.{needs}
 use lib.Dec.{ltb}
 use Rattle.theory.specs.Below.{bit}
 use native.Mathlib.Omega.{arith}
-use Prim.Native.Nat.{ℕ, suc, _+_, _*_, _-_, _≤_, _<_}
-use mathlib.Core.Path.{_≡_, refl, sym, ap, _∙_}
-use mathlib.Core.Logic.{_⊎_, inl, inr, ⊎-elim}
-use lib.ListN.{length, getD, set, length-set}
+use Prim.Native.Nat.{ℕ, _-_, _≤_, _<_}
+use mathlib.Core.Path.{_≡_, refl, sym, _∙_}
+use lib.ListN.{length, getD, length-set}
 use Rattle.graph.specs.Plan.{systemOfModel}
 use Rattle.graph.proofs.Models.{system-laws}
 use Rattle.drift.proofs.Verdict.{marks-written, size-states}
 use Rattle.drift.proofs.Lists.{marks-next}
 use Rattle.drift.proofs.put_marks.Statement.{statement}
 use Rattle.drift.proofs.put_marks.Tie as tie
-use Rattle.drift.proofs.put_marks.Reads as reads
-use Rattle.drift.proofs.put_marks.Lts as lts
-use Rattle.drift.proofs.flag.Reads as flag-reads
 
 abbrev Inv-loop : tie.InvT-loop
 Inv-loop far out₀ p₀ out p =
@@ -23,37 +20,29 @@ Inv-loop far out₀ p₀ out p =
 abbrev μ-loop : tie.MeasureT-loop
 μ-loop far out₀ p₀ out p = length far - p
 
--- src/lib.rt:140:5
 loop-holds : tie.Need-loop-holds Inv-loop μ-loop
 loop-holds c = (omega arith, refl, λ k b. absurd (omega arith))
 
--- src/lib.rt:141:27
 mul-flag : tie.Need-mul-flag Inv-loop μ-loop
 mul-flag c = search needs
 
--- src/lib.rt:141:27
 shared-slice-read-flag : tie.Need-shared-slice-read-flag Inv-loop μ-loop
 shared-slice-read-flag c = search needs
 
--- src/lib.rt:141:18
 flag-requires : tie.Need-flag-requires Inv-loop μ-loop
 flag-requires c κs = search needs
 
--- src/lib.rt:141:9
 slice-write-out : tie.Need-slice-write-out Inv-loop μ-loop
 slice-write-out c =
     let start = c .before .before .before .before .before .before in
     omega (arith, c .before .before .before .loop .inv .1, start .pre .2, start .pre .1 .long, size-states (start .args .m) (start .pre .0))
 
--- src/lib.rt:142:9
 add-p : tie.Need-add-p Inv-loop μ-loop
 add-p c = search needs
 
--- src/lib.rt:140:5
 loop-less : tie.Need-loop-less Inv-loop μ-loop
 loop-less c = omega arith
 
--- src/lib.rt:140:5
 loop-again : tie.Need-loop-again Inv-loop μ-loop
 loop-again c =
     let l = c .before .before .before .loop in (
@@ -62,11 +51,9 @@ loop-again c =
       marks-next (l .out) (c .before .before .before .before .before .before .args .far .now) (l .p) (c .flag .result) (slice-write-out c) (c .flag .ensures) (l .inv .2),
     )
 
--- src/lib.rt:135:1
 same-length : tie.Need-same-length Inv-loop μ-loop
 same-length c = c .before .loop .inv .1
 
--- src/lib.rt:135:1
 returns : tie.Need-returns Inv-loop μ-loop
 returns c =
     let start = c .before .before .before .before in

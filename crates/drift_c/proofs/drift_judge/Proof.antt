@@ -1,40 +1,30 @@
+-- `drift_c::drift_judge` meets its contract.
 use mathlib.Core.Path.{ap, _∙_}
 use Rattle.drift_c.specs.Words.{judgeWord}
 use Rattle.drift_c.proofs.Fields.{judge-fields}
 use borrow.Author.Needs.{needs}
 use Rattle.drift_c.proofs.drift_judge.Statement.{statement}
 use Rattle.drift_c.proofs.drift_judge.Tie as tie
-use Rattle.drift_c.proofs.drift_judge.Reads as reads
-use Rattle.drift_c.proofs.drift_judge.Lts as lts
-use Rattle.drift.proofs.judge.Reads as judge-reads
-use Rattle.drift_c.proofs.judge_word.Reads as judge-word-reads
 
--- src/lib.rt:61:9
 judge-requires : tie.Need-judge-requires
 judge-requires c κs = search needs
 
--- src/lib.rt:62:5
 judge-word-requires : tie.Need-judge-word-requires
 judge-word-requires c κs =
     rw (c .before .before .before .before .before .before .before .before .judge .ensures .0) (judge-fields _ _)
 
--- src/lib.rt:43:1
 same-length : tie.Need-same-length
 same-length c = search needs
 
--- src/lib.rt:43:1
 same-length-2 : tie.Need-same-length-2
 same-length-2 c = search needs
 
--- src/lib.rt:43:1
 same-length-3 : tie.Need-same-length-3
 same-length-3 c = search needs
 
--- src/lib.rt:43:1
 same-length-4 : tie.Need-same-length-4
 same-length-4 c = search needs
 
--- src/lib.rt:43:1
 returns : tie.Need-returns
 returns c =
     (c .judge-word .ensures ∙ ap judgeWord (c .before .before .before .before .before .before .before .before .before .judge .ensures .0), c .before .before .before .before .before .before .before .before .before .judge .ensures .1)

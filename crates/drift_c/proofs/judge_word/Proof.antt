@@ -1,3 +1,4 @@
+-- `drift_c::judge_word` meets its contract.
 use mathlib.Core.Path.{sym, ap, subst, _∙_}
 use native.Mathlib.Omega.{arith}
 use Rattle.drift.specs.declared.Judgement.{Judgement}
@@ -7,51 +8,39 @@ use Rattle.drift_c.proofs.Fields.{verdict-fields, verdict-word-is, refu
 use borrow.Author.Needs.{needs}
 use Rattle.drift_c.proofs.judge_word.Statement.{statement}
 use Rattle.drift_c.proofs.judge_word.Tie as tie
-use Rattle.drift_c.proofs.judge_word.Reads as reads
-use Rattle.drift_c.proofs.judge_word.Lts as lts
-use Rattle.drift_c.proofs.verdict_word.Reads as verdict-word-reads
 
--- src/lib.rt:26:25
 enum-known-answer : tie.Need-enum-known-answer
 enum-known-answer c = search needs
 
--- src/lib.rt:26:43
 verdict-word-requires : tie.Need-verdict-word-requires
 unfolding told
 verdict-word-requires c κs =
     verdict-fields 0 _ _ (omega arith) (subst (λ (j : Judgement). Fields (told j)) (c .before .answer .given .1) (c .before .before .before .pre))
 
--- src/lib.rt:27:27
 enum-known-answer-2 : tie.Need-enum-known-answer-2
 enum-known-answer-2 c = search needs
 
--- src/lib.rt:27:45
 verdict-word-requires-2 : tie.Need-verdict-word-requires-2
 unfolding told
 verdict-word-requires-2 c κs =
     verdict-fields 1 _ _ (omega arith) (subst (λ (j : Judgement). Fields (told j)) (c .before .answer2 .given .1) (c .before .before .before .pre))
 
--- src/lib.rt:28:28
 enum-known-answer-3 : tie.Need-enum-known-answer-3
 enum-known-answer-3 c = search needs
 
--- src/lib.rt:28:39
 cast-result : tie.Need-cast-result
 cast-result c = search needs
 
--- src/lib.rt:21:1
 returns : tie.Need-returns
 unfolding told
 returns c =
     verdict-word-is _ 0 _ _ (c .verdict-word .ensures) ∙ ap (λ (j : Judgement). judgeWord (told j)) (sym (c .before .before .answer .given .1))
 
--- src/lib.rt:21:1
 returns-2 : tie.Need-returns-2
 unfolding told
 returns-2 c =
     verdict-word-is _ 1 _ _ (c .verdict-word2 .ensures) ∙ ap (λ (j : Judgement). judgeWord (told j)) (sym (c .before .before .answer2 .given .1))
 
--- src/lib.rt:21:1
 returns-3 : tie.Need-returns-3
 unfolding told
 returns-3 c =

@@ -1,3 +1,4 @@
+-- `drift_c::marks_word` meets its contract.
 use mathlib.Core.Path.{sym, ap, subst, _∙_}
 use native.Mathlib.Omega.{arith}
 use Rattle.drift.specs.declared.Marking.{Marking}
@@ -7,34 +8,26 @@ use Rattle.drift_c.proofs.Fields.{marks-word-is, marks-refused-is}
 use borrow.Author.Needs.{needs}
 use Rattle.drift_c.proofs.marks_word.Statement.{statement}
 use Rattle.drift_c.proofs.marks_word.Tie as tie
-use Rattle.drift_c.proofs.marks_word.Reads as reads
-use Rattle.drift_c.proofs.marks_word.Lts as lts
 
--- src/lib.rt:37:25
 enum-known-answer : tie.Need-enum-known-answer
 enum-known-answer c = search needs
 
--- src/lib.rt:37:36
 mul-result : tie.Need-mul-result
 unfolding told
 mul-result c =
     let f = subst (λ (j : Marking). Fields (told j)) (c .before .answer .given .1) (c .before .before .before .pre) in omega (arith, f .fit 0)
 
--- src/lib.rt:38:26
 enum-known-answer-2 : tie.Need-enum-known-answer-2
 enum-known-answer-2 c = search needs
 
--- src/lib.rt:38:37
 cast-result : tie.Need-cast-result
 cast-result c = search needs
 
--- src/lib.rt:32:1
 returns : tie.Need-returns
 unfolding told
 returns c =
     marks-word-is _ ∙ ap (λ (j : Marking). marksWord (told j)) (sym (c .before .answer .given .1))
 
--- src/lib.rt:32:1
 returns-2 : tie.Need-returns-2
 unfolding told
 returns-2 c =

@@ -37,16 +37,20 @@ select-spec =
     (λ c. let l = c .before .before .before in
     let a = l .before .before .before .args in
     let e = l .before .entries .ensures in
-    let x = rw e at (sym (c .before .selected .ensures) ∙ c .if1 .taken) in
-    (e, rw e (filled-in (chosen (a .n) (a .ceiling)) packed (now (a .out)) (l .loop .out) (l .loop .i) (l .loop .k) (l .loop .inv .1)
-    (omega (arith, table-length)) (omega (arith, table-length)) x)))
+    let x = rw e at (sym (c .before .selected .ensures) ∙ c .if1 .taken) in (
+      e,
+      rw e (filled-in (chosen (a .n) (a .ceiling)) packed (now (a .out)) (l .loop .out) (l .loop .i) (l .loop .k) (l .loop .inv .1)
+          (omega (arith, table-length)) (omega (arith, table-length)) x),
+    ))
     (λ c. omega arith)
     (λ c. let l = c .before .before .before in
     let a = l .before .before .before .args in
     let e = l .before .entries .ensures in
-    let x = rw e at (sym (c .before .selected .ensures) ∙ c .if1 .left) in
-    (e, filled-out (chosen (a .n) (a .ceiling)) packed (now (a .out)) (l .loop .out) (l .loop .i) (l .loop .k) (l .loop .inv .1)
-    (omega (arith, table-length)) x))
+    let x = rw e at (sym (c .before .selected .ensures) ∙ c .if1 .left) in (
+      e,
+      filled-out (chosen (a .n) (a .ceiling)) packed (now (a .out)) (l .loop .out) (l .loop .i) (l .loop .k) (l .loop .inv .1)
+          (omega (arith, table-length)) x,
+    ))
     (λ c. c .before .loop .inv .1 .same)
     (λ c. let l = c .before in
     let s = l .before .before .before in

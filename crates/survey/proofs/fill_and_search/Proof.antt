@@ -1,68 +1,50 @@
-
+-- `survey::fill_and_search` meets its contract.
 use borrow.Author.Needs.{needs}
 use Rattle.survey.proofs.fill_and_search.Statement.{statement}
 use Rattle.survey.proofs.fill_and_search.Tie as tie
-use Rattle.survey.proofs.fill_and_search.Reads as reads
-use Rattle.survey.proofs.fill_and_search.Lts as lts
-use Rattle.survey.proofs.fill_tables.Reads as fill-tables-reads
-use Rattle.survey.proofs.search.Reads as search-reads
 
--- src/lib.rt:200:5
 fill-tables-requires : tie.Need-fill-tables-requires
 fill-tables-requires c κs = search needs
 
--- src/lib.rt:201:5
 search-requires : tie.Need-search-requires
 search-requires c κs =
     let start = c .before .before .before .before .before .before .before .before .before .before .before .before .before .before .before .before .before .before .before .before .before .before .before .before .before .before .before .before .before .before .before .before .before .before .before .before .before .before .before .before .before .before .before .before .before in
     let tables = c .before .before .before .before .before .before .before .before .before .before .before .before .before .before .before .before .before .before .before .before .before .before .before .before .before .fill-tables .ensures in
     ((start .pre .0 .0, tables .0, tables .1), start .pre .1 .1)
 
--- src/lib.rt:177:1
 same-length : tie.Need-same-length
 same-length c = search needs
 
--- src/lib.rt:177:1
 same-length-2 : tie.Need-same-length-2
 same-length-2 c = search needs
 
--- src/lib.rt:177:1
 same-length-3 : tie.Need-same-length-3
 same-length-3 c = search needs
 
--- src/lib.rt:177:1
 same-length-4 : tie.Need-same-length-4
 same-length-4 c = search needs
 
--- src/lib.rt:177:1
 same-length-5 : tie.Need-same-length-5
 same-length-5 c = search needs
 
--- src/lib.rt:177:1
 same-length-6 : tie.Need-same-length-6
 same-length-6 c = search needs
 
--- src/lib.rt:177:1
 same-length-7 : tie.Need-same-length-7
 same-length-7 c = search needs
 
--- src/lib.rt:177:1
 same-length-8 : tie.Need-same-length-8
 same-length-8 c = search needs
 
--- src/lib.rt:177:1
 same-length-9 : tie.Need-same-length-9
 same-length-9 c = search needs
 
--- src/lib.rt:177:1
 same-length-10 : tie.Need-same-length-10
 same-length-10 c = search needs
 
--- src/lib.rt:177:1
 same-length-11 : tie.Need-same-length-11
 same-length-11 c = search needs
 
--- src/lib.rt:177:1
 returns : tie.Need-returns
 returns c = search needs
 

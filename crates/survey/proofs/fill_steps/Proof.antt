@@ -1,17 +1,11 @@
+-- `survey::fill_steps` meets its contract.
 use mathlib.Core.Path.{_∙_}
 use Rattle.graph.proofs.States.{clocks-of, ceiling-of}
 use Rattle.survey.proofs.Lent.{regions-are, table-long}
 use borrow.Author.Needs.{needs}
 use Rattle.survey.proofs.fill_steps.Statement.{statement}
 use Rattle.survey.proofs.fill_steps.Tie as tie
-use Rattle.survey.proofs.fill_steps.Reads as reads
-use Rattle.survey.proofs.fill_steps.Lts as lts
-use Rattle.region_steps.proofs.fill_later.Reads as fill-later-reads
-use Rattle.region_steps.proofs.fill_resets.Reads as fill-resets-reads
-use Rattle.successors.proofs.fill_allowed.Reads as fill-allowed-reads
-use Rattle.successors.proofs.fill_flow.Reads as fill-flow-reads
 
--- src/lib.rt:55:5
 fill-later-requires : tie.Need-fill-later-requires
 fill-later-requires c κs =
     let start = c .before .before .before .before .before .before .before .before in
@@ -19,15 +13,12 @@ fill-later-requires c κs =
     let ok = start .pre .0 .0 in
     (clocks-of m ok, ceiling-of m ok, start .pre .0 .1, start .pre .0 .2, start .pre .1 .0 ∙ regions-are m ok)
 
--- src/lib.rt:56:5
 fill-resets-requires : tie.Need-fill-resets-requires
 fill-resets-requires c κs = search needs
 
--- src/lib.rt:57:5
 fill-allowed-requires : tie.Need-fill-allowed-requires
 fill-allowed-requires c κs = search needs
 
--- src/lib.rt:58:5
 fill-flow-requires : tie.Need-fill-flow-requires
 fill-flow-requires c κs =
     let start = c .before .before .before .before .before .before .before .before .before .before .before .before .before .before .before .before .before .before .before .before .before .before .before .before in
@@ -44,27 +35,21 @@ fill-flow-requires c κs =
       rw (table-long m ok _ (start .pre .0 .1)) (start .pre .1 .4),
     )
 
--- src/lib.rt:38:1
 same-length : tie.Need-same-length
 same-length c = search needs
 
--- src/lib.rt:38:1
 same-length-2 : tie.Need-same-length-2
 same-length-2 c = search needs
 
--- src/lib.rt:38:1
 same-length-3 : tie.Need-same-length-3
 same-length-3 c = search needs
 
--- src/lib.rt:38:1
 same-length-4 : tie.Need-same-length-4
 same-length-4 c = search needs
 
--- src/lib.rt:38:1
 same-length-5 : tie.Need-same-length-5
 same-length-5 c = search needs
 
--- src/lib.rt:38:1
 returns : tie.Need-returns
 returns c = search needs
 

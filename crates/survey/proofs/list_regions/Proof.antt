@@ -1,3 +1,4 @@
+-- `survey::list_regions` meets its contract.
 use Prim.Native.Nat.{ℕ, _*_}
 use mathlib.Core.Path.{sym, ap, _∙_}
 use native.Mathlib.Omega.{arith}
@@ -7,13 +8,7 @@ use Rattle.survey.proofs.Lent.{regions-are}
 use borrow.Author.Needs.{needs}
 use Rattle.survey.proofs.list_regions.Statement.{statement}
 use Rattle.survey.proofs.list_regions.Tie as tie
-use Rattle.survey.proofs.list_regions.Reads as reads
-use Rattle.survey.proofs.list_regions.Lts as lts
-use Rattle.region_corners.proofs.fill_chains.Reads as fill-chains-reads
-use Rattle.region_corners.proofs.fill_corners.Reads as fill-corners-reads
-use Rattle.region_corners.proofs.fill_faces.Reads as fill-faces-reads
 
--- src/lib.rt:103:5
 fill-faces-requires : tie.Need-fill-faces-requires
 fill-faces-requires c κs =
     let start = c .before .before .before .before .before .before .before .before .before in
@@ -22,7 +17,6 @@ fill-faces-requires c κs =
     let count = regions-are m ok in
     (clocks-of m ok, ceiling-of m ok, start .pre .0 .1, start .pre .0 .2, rw (← count) (start .pre .1 .0), rw (← count) (start .pre .1 .1))
 
--- src/lib.rt:104:5
 fill-corners-requires : tie.Need-fill-corners-requires
 fill-corners-requires c κs =
     let start = c .before .before .before .before .before .before .before .before .before .before .before .before .before .before .before in
@@ -30,7 +24,6 @@ fill-corners-requires c κs =
     let ok = start .pre .0 .0 in
     (clocks-of m ok, ceiling-of m ok, start .pre .0 .1, rw (← regions-are m ok) (start .pre .1 .2))
 
--- src/lib.rt:105:5
 fill-chains-requires : tie.Need-fill-chains-requires
 fill-chains-requires c κs =
     let start = c .before .before .before .before .before .before .before .before .before .before .before .before .before .before .before .before .before .before .before .before .before in
@@ -40,30 +33,24 @@ fill-chains-requires c κs =
     let long = slots .long ∙ ap (λ (k : ℕ). 4 * k) (sym (regions-are m ok)) in (
       (λ s b. rw (start .pre .1 .3) (slots .below s b)),
       start .pre .1 .4 ∙ sym long,
-      omega (arith, long, regions-limit m ok),
+      omega (arith, long, regions-limit ok),
     )
 
--- src/lib.rt:86:1
 same-length : tie.Need-same-length
 same-length c = search needs
 
--- src/lib.rt:86:1
 same-length-2 : tie.Need-same-length-2
 same-length-2 c = search needs
 
--- src/lib.rt:86:1
 same-length-3 : tie.Need-same-length-3
 same-length-3 c = search needs
 
--- src/lib.rt:86:1
 same-length-4 : tie.Need-same-length-4
 same-length-4 c = search needs
 
--- src/lib.rt:86:1
 same-length-5 : tie.Need-same-length-5
 same-length-5 c = search needs
 
--- src/lib.rt:86:1
 returns : tie.Need-returns
 returns c =
     let start = c .before .before .before .before .before .before .before .before .before .before .before .before .before .before .before .before .before .before .before .before .before .before .before .before .before .before in

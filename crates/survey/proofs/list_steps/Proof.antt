@@ -1,3 +1,4 @@
+-- `survey::list_steps` meets its contract.
 use Prim.Native.Nat.{ℕ, _*_}
 use mathlib.Core.Path.{sym, ap, _∙_}
 use native.Mathlib.Omega.{arith}
@@ -5,54 +6,40 @@ use Rattle.survey.proofs.Lent.{prefix-long, table-long, table-short, st
 use borrow.Author.Needs.{needs}
 use Rattle.survey.proofs.list_steps.Statement.{statement}
 use Rattle.survey.proofs.list_steps.Tie as tie
-use Rattle.survey.proofs.list_steps.Reads as reads
-use Rattle.survey.proofs.list_steps.Lts as lts
-use Rattle.graph.proofs.state_count.Reads as state-count-reads
-use Rattle.survey.proofs.fill_steps.Reads as fill-steps-reads
 
--- src/lib.rt:71:18
 cast-masked : tie.Need-cast-masked
 cast-masked c = search needs
 
--- src/lib.rt:71:18
 mul-masked : tie.Need-mul-masked
 mul-masked c = search needs
 
--- src/lib.rt:72:9
 state-count-requires : tie.Need-state-count-requires
 state-count-requires c κs = search needs
 
--- src/lib.rt:77:9
 array-borrow-prefix-later : tie.Need-array-borrow-prefix-later
 array-borrow-prefix-later c =
     let start = c .before .before .before .before .before in table-short (start .args .m) (start .pre .0 .0) _ (start .pre .0 .1)
 
--- src/lib.rt:77:9
 slice-aggregate-fill-steps : tie.Need-slice-aggregate-fill-steps
 slice-aggregate-fill-steps c =
     let start = c .before .before .before .before .before .before in prefix-long _ 1977 (table-short (start .args .m) (start .pre .0 .0) _ (start .pre .0 .1))
 
--- src/lib.rt:78:9
 array-borrow-prefix-moved : tie.Need-array-borrow-prefix-moved
 array-borrow-prefix-moved c =
     let start = c .before .before .before .before .before .before in omega (arith, table-short (start .args .m) (start .pre .0 .0) _ (start .pre .0 .1))
 
--- src/lib.rt:78:9
 slice-aggregate-fill-steps-2 : tie.Need-slice-aggregate-fill-steps-2
 slice-aggregate-fill-steps-2 c =
     let start = c .before .before .before .before .before .before .before in prefix-long _ 15816 (omega (arith, table-short (start .args .m) (start .pre .0 .0) _ (start .pre .0 .1)))
 
--- src/lib.rt:79:9
 array-borrow-prefix-allowed : tie.Need-array-borrow-prefix-allowed
 array-borrow-prefix-allowed c =
     let start = c .before .before .before .before .before .before .before in omega (arith, c .before .before .state-count .ensures, states-short (start .args .m) (start .pre .0 .0))
 
--- src/lib.rt:79:9
 slice-aggregate-fill-steps-3 : tie.Need-slice-aggregate-fill-steps-3
 slice-aggregate-fill-steps-3 c =
     let start = c .before .before .before .before .before .before .before .before in prefix-long _ 15816 (omega (arith, c .before .before .before .state-count .ensures, states-short (start .args .m) (start .pre .0 .0)))
 
--- src/lib.rt:73:5
 fill-steps-requires : tie.Need-fill-steps-requires
 fill-steps-requires c κs =
     let start = c .before .before .before .before .before .before .before .before .before .before in
@@ -71,15 +58,12 @@ fill-steps-requires c κs =
       ),
     )
 
--- src/lib.rt:62:1
 same-length : tie.Need-same-length
 same-length c = search needs
 
--- src/lib.rt:62:1
 same-length-2 : tie.Need-same-length-2
 same-length-2 c = search needs
 
--- src/lib.rt:62:1
 returns : tie.Need-returns
 returns c = search needs
 

@@ -1,24 +1,17 @@
+-- `survey::search` meets its contract.
 use Prim.Native.Nat.{ℕ}
-use mathlib.Core.Path.{subst}
+use mathlib.Core.Path.{subst, refl, sym, _∙_}
 use Rattle.graph.specs.Plan.{systemOfModel}
 use Rattle.graph.proofs.Models.{system-laws}
 use Rattle.component.specs.Marks.{Marks}
-use Rattle.survey.proofs.Tables.{size-states, start-product, heights-of, asked, tables-by}
-use mathlib.Core.Path.{refl, sym, _∙_}
+use Rattle.survey.proofs.Tables.{size-states, start-product, heights-of, asked, tables-by, component-shape}
 use native.Mathlib.Omega.{arith}
 use Rattle.graph.proofs.States.{clocks-of, ceiling-of}
 use Rattle.survey.proofs.Lent.{prefix-long}
-use Rattle.survey.proofs.Tables.{component-shape}
 use borrow.Author.Needs.{needs}
 use Rattle.survey.proofs.search.Statement.{statement}
 use Rattle.survey.proofs.search.Tie as tie
-use Rattle.survey.proofs.search.Reads as reads
-use Rattle.survey.proofs.search.Lts as lts
-use Rattle.component.proofs.components.Reads as components-reads
-use Rattle.marking.proofs.distances.Reads as distances-reads
-use Rattle.region.proofs.count.Reads as count-reads
 
--- src/lib.rt:154:5
 components-requires : tie.Need-components-requires
 components-requires c κs =
     let start = c .before .before .before .before .before .before .before .before .before .before .before .before .before .before .before in
@@ -28,28 +21,22 @@ components-requires c κs =
       (refl, long .1 ∙ sym (long .0), long .2 ∙ sym (long .0), long .3 ∙ sym (long .0)),
     )
 
--- src/lib.rt:156:17
 cast-flags : tie.Need-cast-flags
 cast-flags c = search needs
 
--- src/lib.rt:156:17
 mul-flags : tie.Need-mul-flags
 mul-flags c = search needs
 
--- src/lib.rt:157:13
 count-requires : tie.Need-count-requires
 count-requires c κs =
     let start = c .before .before .before .before .before .before .before .before .before .before .before .before .before .before .before .before .before .before .before .before .before .before .before .before .before in (clocks-of (start .args .m) (start .pre .0 .0), ceiling-of (start .args .m) (start .pre .0 .0))
 
--- src/lib.rt:157:13
 cast-r : tie.Need-cast-r
 cast-r c = search needs
 
--- src/lib.rt:158:17
 cast-start : tie.Need-cast-start
 cast-start c = search needs
 
--- src/lib.rt:158:17
 mul-start : tie.Need-mul-start
 mul-start c =
     let start = c .before .before .before .before .before .before .before .before .before .before .before .before .before .before .before .before .before .before .before .before .before .before .before .before .before .before .before in
@@ -57,17 +44,14 @@ mul-start c =
     let b = start-product (start .args .m) (start .pre .0 .0) (count .result) (count .ensures) in
     omega (arith, b)
 
--- src/lib.rt:172:9
 array-borrow-prefix-noted : tie.Need-array-borrow-prefix-noted
 array-borrow-prefix-noted c =
     let start = c .before .before .before .before .before .before .before .before .before .before .before .before .before .before .before .before .before .before .before .before .before .before .before .before .before .before .before .before .before .before in omega (arith, start .pre .0 .0 .locations .1)
 
--- src/lib.rt:172:9
 slice-aggregate-distances : tie.Need-slice-aggregate-distances
 slice-aggregate-distances c =
     let start = c .before .before .before .before .before .before .before .before .before .before .before .before .before .before .before .before .before .before .before .before .before .before .before .before .before .before .before .before .before .before .before in prefix-long _ 1728 (omega (arith, start .pre .0 .0 .locations .1))
 
--- src/lib.rt:159:5
 distances-requires : tie.Need-distances-requires
 distances-requires c κs =
     let start = c .before .before .before .before .before .before .before .before .before .before .before .before .before .before .before .before .before .before .before .before .before .before .before .before .before .before .before .before .before .before .before in
@@ -81,23 +65,18 @@ distances-requires c κs =
     (found .kept .1 .1 .0 ∙ start .pre .1 .0)
     (sym (prefix-long _ 1728 (omega (arith, ok .locations .1))))
 
--- src/lib.rt:134:1
 same-length : tie.Need-same-length
 same-length c = search needs
 
--- src/lib.rt:134:1
 same-length-2 : tie.Need-same-length-2
 same-length-2 c = search needs
 
--- src/lib.rt:134:1
 same-length-3 : tie.Need-same-length-3
 same-length-3 c = search needs
 
--- src/lib.rt:134:1
 same-length-4 : tie.Need-same-length-4
 same-length-4 c = search needs
 
--- src/lib.rt:134:1
 returns : tie.Need-returns
 returns c =
     let start = c .before .before .before .before .before .before .before .before .before .before .before .before .before .before .before .before .before .before .before .before .before .before .before .before .before .before .before .before .before .before .before .before .before .before .before .before .before in

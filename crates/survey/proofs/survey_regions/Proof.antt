@@ -1,3 +1,4 @@
+-- `survey::survey_regions` meets its contract.
 use Prim.Native.Nat.{ℕ, _+_, _*_}
 use mathlib.Core.Path.{sym, ap, _∙_}
 use lib.ListN.{length-replicate}
@@ -6,75 +7,57 @@ use Rattle.survey.proofs.Lent.{prefix-long, table-long, table-short, st
 use borrow.Author.Needs.{needs}
 use Rattle.survey.proofs.survey_regions.Statement.{statement}
 use Rattle.survey.proofs.survey_regions.Tie as tie
-use Rattle.survey.proofs.survey_regions.Reads as reads
-use Rattle.survey.proofs.survey_regions.Lts as lts
-use Rattle.survey.proofs.fill_and_search.Reads as fill-and-search-reads
 
--- src/lib.rt:228:18
 add-firsts : tie.Need-add-firsts
 add-firsts c = search needs
 
--- src/lib.rt:229:18
 add-starts : tie.Need-add-starts
 add-starts c = search needs
 
--- src/lib.rt:230:17
 mul-slots : tie.Need-mul-slots
 mul-slots c = search needs
 
--- src/lib.rt:234:9
 array-borrow-prefix-first : tie.Need-array-borrow-prefix-first
 array-borrow-prefix-first c =
     let start = c .before .before .before .before .before in omega (arith, start .pre .1 .0, states-short (start .args .m) (start .pre .0 .0))
 
--- src/lib.rt:234:9
 slice-aggregate-fill-and-search : tie.Need-slice-aggregate-fill-and-search
 slice-aggregate-fill-and-search c =
     let start = c .before .before .before .before .before .before in prefix-long _ 15817 (omega (arith, start .pre .1 .0, states-short (start .args .m) (start .pre .0 .0)))
 
--- src/lib.rt:235:9
 slice-aggregate-fill-and-search-2 : tie.Need-slice-aggregate-fill-and-search-2
 slice-aggregate-fill-and-search-2 c = search needs
 
--- src/lib.rt:236:9
 array-borrow-prefix-rows : tie.Need-array-borrow-prefix-rows
 array-borrow-prefix-rows c =
     let start = c .before .before .before .before .before .before .before in omega (arith, table-short (start .args .m) (start .pre .0 .0) _ (start .pre .0 .1))
 
--- src/lib.rt:236:9
 slice-aggregate-fill-and-search-3 : tie.Need-slice-aggregate-fill-and-search-3
 slice-aggregate-fill-and-search-3 c =
     let start = c .before .before .before .before .before .before .before .before in prefix-long _ 1978 (omega (arith, table-short (start .args .m) (start .pre .0 .0) _ (start .pre .0 .1)))
 
--- src/lib.rt:237:9
 slice-aggregate-fill-and-search-4 : tie.Need-slice-aggregate-fill-and-search-4
 slice-aggregate-fill-and-search-4 c = search needs
 
--- src/lib.rt:238:9
 array-borrow-prefix-corner : tie.Need-array-borrow-prefix-corner
 array-borrow-prefix-corner c =
     let start = c .before .before .before .before .before .before .before .before .before in omega (arith, table-short (start .args .m) (start .pre .0 .0) _ (start .pre .0 .1))
 
--- src/lib.rt:238:9
 slice-aggregate-fill-and-search-5 : tie.Need-slice-aggregate-fill-and-search-5
 slice-aggregate-fill-and-search-5 c =
     let start = c .before .before .before .before .before .before .before .before .before .before in prefix-long _ 7908 (omega (arith, table-short (start .args .m) (start .pre .0 .0) _ (start .pre .0 .1)))
 
--- src/lib.rt:239:9
 slice-aggregate-fill-and-search-6 : tie.Need-slice-aggregate-fill-and-search-6
 slice-aggregate-fill-and-search-6 c = search needs
 
--- src/lib.rt:240:9
 array-borrow-prefix-link : tie.Need-array-borrow-prefix-link
 array-borrow-prefix-link c =
     let start = c .before .before .before .before .before .before .before .before .before .before .before in omega (arith, table-short (start .args .m) (start .pre .0 .0) _ (start .pre .0 .1))
 
--- src/lib.rt:240:9
 slice-aggregate-fill-and-search-7 : tie.Need-slice-aggregate-fill-and-search-7
 slice-aggregate-fill-and-search-7 c =
     let start = c .before .before .before .before .before .before .before .before .before .before .before .before in prefix-long _ 7908 (omega (arith, table-short (start .args .m) (start .pre .0 .0) _ (start .pre .0 .1)))
 
--- src/lib.rt:231:5
 fill-and-search-requires : tie.Need-fill-and-search-requires
 fill-and-search-requires c κs =
     let start = c .before .before .before .before .before .before .before .before .before .before .before .before .before .before .before .before in
@@ -98,23 +81,18 @@ fill-and-search-requires c κs =
       ),
     )
 
--- src/lib.rt:207:1
 same-length : tie.Need-same-length
 same-length c = search needs
 
--- src/lib.rt:207:1
 same-length-2 : tie.Need-same-length-2
 same-length-2 c = search needs
 
--- src/lib.rt:207:1
 same-length-3 : tie.Need-same-length-3
 same-length-3 c = search needs
 
--- src/lib.rt:207:1
 same-length-4 : tie.Need-same-length-4
 same-length-4 c = search needs
 
--- src/lib.rt:207:1
 returns : tie.Need-returns
 returns c = search needs
 

@@ -1,0 +1,76 @@
+-- The numbers of a sheet after the first: as bytes spell them, and as they are read, one by one.
+use mathlib.Core.Path.{_≡_}
+use mathlib.Core.Bool.{Bool, cond, _&&_, _||_}
+use mathlib.Core.List.{List, [], _∷_, _++_}
+use Prim.Native.Nat.{ℕ, zero, suc, _+_}
+use lib.ListN.{getD}
+use lib.Dec.{leb, eqb}
+use Rattle.number.specs.declared.Number.{Number}
+use Rattle.number.specs.Number.{Spells, readNumber}
+use Rattle.sheet.specs.declared.read.Extent.{Extent}
+use Rattle.sheet.specs.declared.read.Extent.the-variants.{End, Refused}
+use Rattle.number.specs.declared.Number.the-variants as number
+
+-- ---- what is meant
+
+-- The bytes spell the numbers, one after the other, with nothing after. Padding is allowed, so a list of numbers may be spelled in several ways.
+pub data SpellsAll : List ℕ → List ℕ → Type 0 where
+  none : SpellsAll [] []
+  more : {bs g rest l : List ℕ} {v : ℕ} → bs ≡ g ++ rest → Spells g v → SpellsAll rest l → SpellsAll bs (v ∷ l)
+
+-- ---- what computes it: "sheet numbers in order by 1, 2, 11"
+
+-- numbers and the offset after them, or the refusal of one
+pub data Numbers : Type 0 where
+  got : List ℕ → ℕ → Numbers
+  stop : ℕ → Numbers
+
+-- go on with a number and the offset after it, or stop with its refusal
+abbrev pub onNumber : {A : Type 0} → Number → (ℕ → ℕ → A) → (ℕ → A) → A
+onNumber (number.Value v p) go halt = go v p
+onNumber (number.Refused r) go halt = halt r
+
+abbrev pub onNumbers : {A : Type 0} → Numbers → (List ℕ → ℕ → A) → (ℕ → A) → A
+onNumbers (got l e) go halt = go l e
+onNumbers (stop r) go halt = halt r
+
+-- the same numbers after others
+abbrev pub after : List ℕ → Numbers → Numbers
+after l (got m e) = got (l ++ m) e
+after l (stop r) = stop r
+
+-- not 11, "sheet number above 2S-1, or not 0 where not allowed"
+unfoldable pub numberKeeps : Bool → ℕ → ℕ → Bool
+numberKeeps allowed top v = leb v top && (allowed || eqb v 0)
+
+-- k numbers from an offset on, the first of them that of state i
+unfoldable pub numbersFrom : (ℕ → Bool) → ℕ → List ℕ → ℕ → ℕ → ℕ → Numbers
+numbersFrom allowed top bs zero i at = got [] at
+numbersFrom allowed top bs (suc k) i at =
+    onNumber (readNumber bs at)
+    (λ v p. cond (numberKeeps (allowed i) top v) (after (v ∷ []) (numbersFrom allowed top bs k (i + 1) p)) (stop 11))
+    stop
+
+-- ---- what the code is lent and answers
+
+-- for as many states 2S-1 fits 16 bits
+abbrev pub mostStates : ℕ
+mostStates = 32768
+
+-- the states whose flag is 1
+abbrev pub flagged : List ℕ → ℕ → Bool
+flagged allowed p = eqb (getD allowed p 0) 1
+
+-- what was read into a slice that now holds l
+abbrev pub numbersOf : Extent → List ℕ → Numbers
+numbersOf (End e) l = got l e
+numbersOf (Refused r) l = stop r
+
+-- the refusal, 0 where there is none
+abbrev pub numberRefusal : Number → ℕ
+numberRefusal (number.Value v p) = 0
+numberRefusal (number.Refused r) = r
+
+abbrev pub refusalOf : Extent → ℕ
+refusalOf (End e) = 0
+refusalOf (Refused r) = r
