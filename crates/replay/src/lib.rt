@@ -1,0 +1,176 @@
+// A trail, read from its bytes and replayed step by step (01, "Evidence").
+// `table` is the list of the model's regions, packed, as region::select gives it.
+mod read;
+mod walk;
+
+ghost use mathlib.Core.Path.{_≡_};
+ghost use Prim.Native.Nat.{_<_};
+ghost use Rattle.region.specs.View.{view};
+ghost use Rattle.model.specs.Model.{Lawful};
+ghost use Rattle.graph.specs.Plan.{systemOfModel};
+ghost use Rattle.graph.specs.States.{Listed, states};
+ghost use Rattle.replay.specs.Trail.{faceTo, touchTo, run, trailStep, trailAnswer};
+ghost use Rattle.replay.specs.Steps.{isSmall, lookUp, stepTo};
+use graph::Next;
+use model::Model;
+use number::Number;
+use read::Reading;
+use region::Found;
+use region::Region;
+
+// A step of a trail, all but a touch's walk. 01: "0 time; 1 jump, edge number; 2 face, w1..wn, r1..rn; 3 touch, the region likewise".
+pub enum Step {
+    Time,
+    Jump(u32),
+    Face(Region),
+    Touch(Region),
+}
+
+// A state that was reached and the offset after what was read, or the refusal: 1, 2 or 13.
+pub enum Reached {
+    At(usize, usize),
+    Refused(u8),
+}
+
+// The start: all clocks 0.
+fn start(m: Model, table: &[u32]) -> usize
+    requires { ⌜ Lawful m × Listed m (now table) ⌝ }
+    ensures { λ p. ⌜ p ≡ systemOfModel m .start ⌝ }
+{
+    let zero = Region {
+        w1: 0,
+        w2: 0,
+        w3: 0,
+        r1: 0,
+        r2: 0,
+        r3: 0,
+    };
+    let found = graph::state_at(m, table, m.start as usize, zero);
+    let Next::To(p) = found else {
+        return 0;
+    };
+    p
+}
+
+// Whole parts and ranks that some region has.
+fn is_small(g: Region) -> bool
+    ensures { λ b. ⌜ b ≡ isSmall g ⌝ }
+{
+    let wholes = (g.w1 <= 4) & ((g.w2 <= 4) & (g.w3 <= 4));
+    let ranks = (g.r1 <= 3) & ((g.r2 <= 3) & (g.r3 <= 3));
+    wholes & ranks
+}
+
+// The state of a region at the location of s, allowed or not; nothing where there is no such region.
+fn look_up(m: Model, table: &[u32], s: usize, g: Region) -> Next
+    requires { ⌜ Lawful m × Listed m (now table) × (s < states m) ⌝ }
+    ensures { λ r. ⌜ r ≡ lookUp m s (view (m .clocks) g) ⌝ }
+{
+    let h = g.first(m.clocks);
+    if !is_small(h) {
+        return Next::Nothing;
+    }
+    let found = region::find(table, h.pack());
+    let Found::At(i) = found else {
+        return Next::Nothing;
+    };
+    let count = table.len();
+    Next::To(s / count * count + i)
+}
+
+// A face step.
+fn to_face(m: Model, table: &[u32], s: usize, g: Region, at: usize) -> Reached
+    requires { ⌜ Lawful m × Listed m (now table) × (s < states m) ⌝ }
+    ensures { λ r. ⌜ r ≡ faceTo m s (view (m .clocks) g) at ⌝ }
+{
+    let found = look_up(m, table, s, g);
+    let Next::To(q) = found else {
+        return Reached::Refused(13);
+    };
+    if graph::has_face(m, table, s, q) {
+        return Reached::At(q, at);
+    }
+    Reached::Refused(13)
+}
+
+// A touch step, with its walk.
+fn to_touch(m: Model, table: &[u32], bytes: &[u8], s: usize, g: Region, at: usize) -> Reached
+    requires { ⌜ Lawful m × Listed m (now table) × (s < states m) ⌝ }
+    ensures { λ r. ⌜ r ≡ touchTo m (now (bytes .entry)) s (view (m .clocks) g) at ⌝ }
+{
+    let found = look_up(m, table, s, g);
+    let Next::To(q) = found else {
+        return Reached::Refused(13);
+    };
+    if graph::near(m, table, s, q) {
+        return walk::closed_walk(m, table, bytes, q, at);
+    }
+    Reached::Refused(13)
+}
+
+// Replays a step that was read up to an offset.
+fn advance(m: Model, table: &[u32], bytes: &[u8], step: Step, s: usize, at: usize) -> Reached
+    requires { ⌜ Lawful m × Listed m (now table) × (s < states m) ⌝ }
+    ensures { λ r. ⌜ r ≡ stepTo m (now (bytes .entry)) step s at ⌝ }
+{
+    match step {
+        Step::Time => walk::to_time(m, table, s, at),
+        Step::Jump(e) => walk::to_jump(m, table, e, s, at),
+        Step::Face(g) => to_face(m, table, s, g, at),
+        Step::Touch(g) => to_touch(m, table, bytes, s, g, at),
+    }
+}
+
+// Reads and replays one step.
+fn one_step(m: Model, table: &[u32], bytes: &[u8], s: usize, at: usize) -> Reached
+    requires { ⌜ Lawful m × Listed m (now table) × (s < states m) ⌝ }
+    ensures { λ r. ⌜ r ≡ trailStep m (now (bytes .entry)) s at ⌝ }
+{
+    let got = read::read_step(bytes, at, m.clocks);
+    let Reading::Read(step, p) = got else {
+        return Reached::Refused(read::step_refusal(got));
+    };
+    advance(m, table, bytes, step, s, p)
+}
+
+// The steps of a trail, the first one from the start.
+fn all_steps(m: Model, table: &[u32], bytes: &[u8], at: usize, count: u32) -> Reached
+    requires { ⌜ Lawful m × Listed m (now table) ⌝ }
+    ensures { λ r. ⌜ r ≡ run (trailStep m (now (bytes .entry))) count (systemOfModel m .start) at ⌝ }
+{
+    let mut s = start(m, table);
+    let mut p = at;
+    let mut left = count;
+    while 0 < left {
+        let here = one_step(m, table, bytes, s, p);
+        let Reached::At(q, next) = here else {
+            return here;
+        };
+        s = q;
+        p = next;
+        left -= 1;
+    }
+    Reached::At(s, p)
+}
+
+// A trail whose bytes begin at an offset, just after its first number: 0 if it passes, or the refusal 1, 2, 13, 6 or 14.
+pub fn replay(m: Model, table: &[u32], bytes: &[u8], at: usize) -> u8
+    requires { ⌜ Lawful m × Listed m (now table) ⌝ }
+    ensures { λ r. ⌜ r ≡ trailAnswer m (now (bytes .entry)) at ⌝ }
+{
+    let got = number::read(bytes, at);
+    let Number::Value(count, p) = got else {
+        return read::number_refusal(got);
+    };
+    let done = all_steps(m, table, bytes, p, count);
+    let Reached::At(s, end) = done else {
+        return walk::refusal(done);
+    };
+    if end < bytes.len() {
+        return 6;
+    }
+    if graph::forbidden(m, table, s) {
+        return 0;
+    }
+    14
+}
