@@ -111,23 +111,20 @@ module _ (bs : List ℕ) (a i : ℕ) where
               ∙ ap Refused (sym z)
 
 -- up to an offset
-module _ (bs : List ℕ) (n i : ℕ) where
-  drop-take : i ≤ length bs → i ≤ n → drop i (take n bs) ≡ take (n - i) (drop i bs)
-  drop-take h k = by bs n i h k
-    where
-      by : (bs : List ℕ) (n i : ℕ) → i ≤ length bs → i ≤ n → drop i (take n bs) ≡ take (n - i) (drop i bs)
-      by bs n zero h k = ap (λ j. take j bs) (let z : n ≡ n - 0 = omega arith in z)
-      by [] n (suc i) h k = absurd (omega arith)
-      by (b ∷ bs) zero (suc i) h k = absurd (omega arith)
-      by (b ∷ bs) (suc n) (suc i) h k =
-          by bs n i (omega arith) (omega arith) ∙ ap (λ j. take j (drop i bs)) (let z : n - i ≡ suc n - suc i = omega arith in z)
+drop-take : (bs : List ℕ) (n i : ℕ) → i ≤ length bs → i ≤ n → drop i (take n bs) ≡ take (n - i) (drop i bs)
+drop-take bs n zero h k = ap (λ j. take j bs) (let z : n ≡ n - 0 = omega arith in z)
+drop-take [] n (suc i) h k = absurd (omega arith)
+drop-take (b ∷ bs) zero (suc i) h k = absurd (omega arith)
+drop-take (b ∷ bs) (suc n) (suc i) h k =
+    drop-take bs n i (omega arith) (omega arith) ∙ ap (λ j. take j (drop i bs)) (let z : n - i ≡ suc n - suc i = omega arith in z)
 
+module _ (bs : List ℕ) (n i : ℕ) where
   pub number-prefix : (v to : ℕ) → readNumber bs i ≡ Value v to → to ≤ n → readNumber (take n bs) i ≡ Value v to
   number-prefix v to e h =
       let (g, rest, d, s, q) = read-value bs i v to .0 e in
       let (a, b) = value-within bs i v to e in
       let split : drop i (take n bs) ≡ g ++ take (n - to) rest
-      = drop-take (omega arith) (omega arith) ∙ ap (take (n - i)) d
+      = drop-take bs n i (omega arith) (omega arith) ∙ ap (take (n - i)) d
       ∙ ap (λ (k : ℕ). take k (g ++ rest)) (let z : n - i ≡ length g + (n - to) = omega arith in z)
       ∙ take-append-add g rest (n - to) in
       read-value (take n bs) i v to .1 (g, take (n - to) rest, split, s, q)

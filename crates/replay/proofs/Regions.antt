@@ -37,32 +37,31 @@ pub parts-clocks : (xs : List Clock) → clocks (wholes xs) (ranks xs) ≡ xs
 parts-clocks [] = refl
 parts-clocks (x ∷ xs) = ap (_∷_ x) (parts-clocks xs)
 
-module _ where
-  clocks-wholes : (ws rs : List ℕ) → length ws ≡ length rs → wholes (clocks ws rs) ≡ ws
-  clocks-wholes [] rs h = refl
-  clocks-wholes (w ∷ ws) [] h = absurd (omega arith)
-  clocks-wholes (w ∷ ws) (r ∷ rs) h = ap (_∷_ w) (clocks-wholes ws rs (omega arith))
+clocks-wholes : (ws rs : List ℕ) → length ws ≡ length rs → wholes (clocks ws rs) ≡ ws
+clocks-wholes [] rs h = refl
+clocks-wholes (w ∷ ws) [] h = absurd (omega arith)
+clocks-wholes (w ∷ ws) (r ∷ rs) h = ap (_∷_ w) (clocks-wholes ws rs (omega arith))
 
-  clocks-ranks : (ws rs : List ℕ) → length ws ≡ length rs → ranks (clocks ws rs) ≡ rs
-  clocks-ranks [] [] h = refl
-  clocks-ranks [] (r ∷ rs) h = absurd (omega arith)
-  clocks-ranks (w ∷ ws) [] h = absurd (omega arith)
-  clocks-ranks (w ∷ ws) (r ∷ rs) h = ap (_∷_ r) (clocks-ranks ws rs (omega arith))
+clocks-ranks : (ws rs : List ℕ) → length ws ≡ length rs → ranks (clocks ws rs) ≡ rs
+clocks-ranks [] [] h = refl
+clocks-ranks [] (r ∷ rs) h = absurd (omega arith)
+clocks-ranks (w ∷ ws) [] h = absurd (omega arith)
+clocks-ranks (w ∷ ws) (r ∷ rs) h = ap (_∷_ r) (clocks-ranks ws rs (omega arith))
 
-  pub clocks-key : (ws rs : List ℕ) → length ws ≡ length rs → key (clocks ws rs) ≡ ws ++ rs
-  clocks-key ws rs h = ap₂ _++_ (clocks-wholes ws rs h) (clocks-ranks ws rs h)
+pub clocks-key : (ws rs : List ℕ) → length ws ≡ length rs → key (clocks ws rs) ≡ ws ++ rs
+clocks-key ws rs h = ap₂ _++_ (clocks-wholes ws rs h) (clocks-ranks ws rs h)
 
-  pub clocks-length : (ws rs : List ℕ) → length ws ≡ length rs → length (clocks ws rs) ≡ length ws
-  clocks-length [] rs h = refl
-  clocks-length (w ∷ ws) [] h = absurd (omega arith)
-  clocks-length (w ∷ ws) (r ∷ rs) h = ap suc (clocks-length ws rs (omega arith))
+pub clocks-length : (ws rs : List ℕ) → length ws ≡ length rs → length (clocks ws rs) ≡ length ws
+clocks-length [] rs h = refl
+clocks-length (w ∷ ws) [] h = absurd (omega arith)
+clocks-length (w ∷ ws) (r ∷ rs) h = ap suc (clocks-length ws rs (omega arith))
 
-  nth-clocks : (ws rs : List ℕ) → length ws ≡ length rs → (i : ℕ) → nth (clocks ws rs) i ≡ clock (getD ws i 0) (getD rs i 0)
-  nth-clocks [] [] h i = refl
-  nth-clocks [] (r ∷ rs) h i = absurd (omega arith)
-  nth-clocks (w ∷ ws) [] h i = absurd (omega arith)
-  nth-clocks (w ∷ ws) (r ∷ rs) h zero = refl
-  nth-clocks (w ∷ ws) (r ∷ rs) h (suc i) = nth-clocks ws rs (omega arith) i
+nth-clocks : (ws rs : List ℕ) → length ws ≡ length rs → (i : ℕ) → nth (clocks ws rs) i ≡ clock (getD ws i 0) (getD rs i 0)
+nth-clocks [] [] h i = refl
+nth-clocks [] (r ∷ rs) h i = absurd (omega arith)
+nth-clocks (w ∷ ws) [] h i = absurd (omega arith)
+nth-clocks (w ∷ ws) (r ∷ rs) h zero = refl
+nth-clocks (w ∷ ws) (r ∷ rs) h (suc i) = nth-clocks ws rs (omega arith) i
 
 -- ---- numbers kept in bytes
 
@@ -169,7 +168,7 @@ module _ (m : Model) (ok : Lawful m) (s : ℕ) (below : s < states m) (xs : List
       by true f = absurd (let z : _≡_ {A = ℕ} 0 1 = cc in omega arith)
       by false f = refl
 
--- as the code looks it up: h is the struct of the first clocks of g
+-- as the code looks it up: x is the struct of the first clocks of g
 module _ (m : Model) (ok : Lawful m) (table : List ℕ) (listed : Listed m table) (s : ℕ) (below : s < states m) (g x : Region)
     (first : x ≡ structOf (view (m .clocks) g)) where
   abbrev xs : List Clock

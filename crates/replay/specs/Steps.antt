@@ -24,7 +24,7 @@ use Rattle.replay.specs.declared.read.Reading.the-variants as reading
 
 -- ---- reading
 
--- the refusal of what was read, 0 where nothing was refused (of a number: `numberRefusal`)
+-- the refusal of what was read, 0 where nothing was refused; of a number it is the model's `numberRefusal`
 abbrev pub threeRefusal : Three → ℕ
 threeRefusal (three.Numbers a b c p) = 0
 threeRefusal (three.Refused r) = r
@@ -109,6 +109,6 @@ unfoldable pub stepsEnd : List ℕ → ℕ → ℕ → ℕ
 stepsEnd bs zero at = at
 stepsEnd bs (suc k) at = onNumber (labelAt bs at) (λ x to. stepsEnd bs k to) (λ r. length bs)
 
--- the part of the bytes that spells them
+-- "The replay gets the walk as a part of the caller's own bytes": the part that spells these steps
 abbrev pub walkPart : List ℕ → ℕ → ℕ → List ℕ
 walkPart bs k at = take (stepsEnd bs k at - at) (drop at bs)

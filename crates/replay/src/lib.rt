@@ -12,6 +12,8 @@ ghost use Rattle.graph.specs.States.{Listed, states};
 ghost use Rattle.replay.specs.Trail.{faceTo, touchTo, run, trailStep, trailAnswer};
 ghost use Rattle.replay.specs.Steps.{isSmall, lookUp, stepTo};
 use graph::Next;
+use model::MAX_CEILING;
+use model::MAX_CLOCKS;
 use model::Model;
 use number::Number;
 use read::Reading;
@@ -56,8 +58,8 @@ fn start(m: Model, table: &[u32]) -> usize
 fn is_small(g: Region) -> bool
     ensures { λ b. ⌜ b ≡ isSmall g ⌝ }
 {
-    let wholes = (g.w1 <= 4) & ((g.w2 <= 4) & (g.w3 <= 4));
-    let ranks = (g.r1 <= 3) & ((g.r2 <= 3) & (g.r3 <= 3));
+    let wholes = (g.w1 <= MAX_CEILING) & ((g.w2 <= MAX_CEILING) & (g.w3 <= MAX_CEILING));
+    let ranks = (g.r1 <= MAX_CLOCKS) & ((g.r2 <= MAX_CLOCKS) & (g.r3 <= MAX_CLOCKS));
     wholes & ranks
 }
 
