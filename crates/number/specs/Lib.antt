@@ -1,2 +1,4 @@
 -- What a number is.
 pub mod Number
+-- Numbers one after the other.
+pub mod Sequence

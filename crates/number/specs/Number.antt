@@ -45,6 +45,16 @@ readNumber bs at =
     (group bs (at + 1 + 1) (a % 128 + 128 * (b % 128) + 16384 * c)
     (Refused 2)))
 
+-- go on with a number and the position after it, or stop with its refusal
+abbrev pub onNumber : {A : Type 0} → Number → (ℕ → ℕ → A) → (ℕ → A) → A
+onNumber (Value v p) go stop = go v p
+onNumber (Refused r) go stop = stop r
+
+-- the refusal, 0 where there is a value
+abbrev pub numberRefusal : Number → ℕ
+numberRefusal (Value v p) = 0
+numberRefusal (Refused r) = r
+
 -- "What we write uses shortest numbers": the shortest form of a number below 2 ^ 21
 unfoldable pub spell : ℕ → List ℕ
 spell v =

@@ -3,7 +3,7 @@ ghost use mathlib.Core.Path.{_≡_};
 ghost use Prim.Native.Nat.{_+_, _<_, _≤_, _^_};
 ghost use lib.ListN.{length};
 ghost use lib.Seq.{sets};
-ghost use Rattle.number.specs.Number.{readNumber, spell};
+ghost use Rattle.number.specs.Number.{readNumber, numberRefusal, spell};
 
 // What reading a number finds: its value and the offset after it, or the refusal, 1 or 2.
 pub enum Number {
@@ -39,6 +39,16 @@ pub fn read(bytes: &[u8], at: usize) -> Number
         return Number::Value(first % 128 + 128 * (second % 128) + 16384 * third, at3 + 1);
     }
     Number::Refused(2)
+}
+
+// The refusal of a number, 0 where it has a value.
+pub fn refusal_of(n: Number) -> u8
+    ensures { λ r. ⌜ r ≡ numberRefusal n ⌝ }
+{
+    match n {
+        Number::Value(_, _) => 0,
+        Number::Refused(r) => r,
+    }
 }
 
 // The number of bytes of a number's shortest form.

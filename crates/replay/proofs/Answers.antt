@@ -3,7 +3,7 @@ use Prim.Native.Nat.{ℕ, _^_, _≤_, _<_}
 use native.Mathlib.Omega.{arith}
 use mathlib.Core.Path.{_≡_, refl, sym, ap, subst, _∙_}
 use mathlib.Core.Logic.{_↔_, _⊎_, inl, inr}
-use mathlib.Core.List.{List, [], _∷_, _++_, List·Memᴰ, List·Memᴰ·head, List·Memᴰ·tail}
+use mathlib.Core.List.{List, [], _∷_, _++_, List·Memᴰ}
 use lib.ListN.{length, drop, length-drop, length-append}
 use lib.Seq.{drop-append-seam}
 use lib.Dec.{ltb}
@@ -15,19 +15,19 @@ use Rattle.theory.proofs.Below.{cond-ind}
 use Rattle.theory.proofs.Verdict.{trail-sound}
 use Rattle.number.specs.Number.{Spells, readNumber, spellAll}
 use Rattle.number.proofs.Laws.{spells-ind}
-use Rattle.number.proofs.Spelling.{spell-spells}
 use Rattle.model.specs.declared.Model.{Model}
 use Rattle.model.specs.Model.{Lawful}
 use Rattle.graph.specs.Plan.{automatonOf, systemOfModel, labelledOfModel}
 use Rattle.graph.proofs.Models.{labelled-laws}
-use Rattle.replay.specs.Spelling.{SpellsAll, none, more, movesNumbers, trailNumbers, TrailPasses}
+use Rattle.number.specs.Sequence.{SpellsAll, more}
+use Rattle.replay.specs.Spelling.{movesNumbers, trailNumbers, TrailPasses}
 use Rattle.replay.specs.Trail.{run, trailStep, trailAnswer}
-use Rattle.replay.proofs.Numbers.{Reads, value-within, reads-first, reads-within, reads-law}
+use Rattle.number.proofs.Sequence.{Reads, value-within, reads-first, reads-within, reads-law, spelled}
 use Rattle.replay.proofs.Ways.{number-ind, reached-ind, Refusal, read-refusal, told-at, told-refused}
 use Rattle.replay.proofs.Replays.{steps-told, is-steps}
 use Rattle.number.specs.declared.Number.the-variants as number
 use Rattle.theory.proofs.Replay as theory
-use Rattle.replay.proofs.Numbers as numbers
+use Rattle.number.proofs.Sequence as numbers
 
 spells-some : {l vs : List ℕ} {v : ℕ} → SpellsAll l (v ∷ vs) → 1 ≤ length l
 spells-some (more {g = g} {bs = rest} k s) = omega (arith, length-append g rest, some k)
@@ -95,12 +95,6 @@ module _ (m : Model) (bs : List ℕ) (at : ℕ) where
       Known n = (n ≡ 0) ⊎ (Refusal n ⊎ ((n ≡ 6) ⊎ (n ≡ 14)))
 
 -- ---- "What we write uses shortest numbers"
-
--- shortest forms spell their numbers
-pub spelled : (vs : List ℕ) → ((v : ℕ) → List·Memᴰ v vs → v < 2 ^ 21) → SpellsAll (spellAll vs) vs
-unfolding spellAll
-spelled [] h = none
-spelled (v ∷ vs) h = more (spell-spells v (h v (List·Memᴰ·head refl))) (spelled vs (λ w k. h w (List·Memᴰ·tail k)))
 
 -- so moves that pass, written after whatever stands before them, are answered by 0
 pub spelled-passes : (m : Model) (vs : List Move) → Passes (labelledOfModel m) vs

@@ -1,5 +1,3 @@
--- Numbers read one after the other: by offsets, in a part of the bytes, and in the paper's form.
-pub mod Numbers
 -- What comes of a reading, by its ways.
 pub mod Ways
 -- Steps one after the other; the part of the bytes that spells a walk.

@@ -27,7 +27,7 @@ use Rattle.replay.specs.declared.Reached.{Reached}
 use Rattle.replay.specs.declared.Reached.the-variants.{At, Refused}
 use Rattle.replay.specs.Spelling.{labelNumbers, walkNumbers, moveNumbers, movesNumbers}
 use Rattle.replay.specs.Trail.{run, flowTo, labelAt, walkStep, closedWalk, got, numbersAt, onRegion, stateBeside, faceTo, touchTo, trailStep}
-use Rattle.replay.proofs.Numbers.{Reads, none, more, reads-append, reads-split, reads-first, reads-end}
+use Rattle.number.proofs.Sequence.{Reads, none, more, reads-append, reads-split, reads-first, reads-end}
 use Rattle.replay.proofs.Ways.{number-ind, numbers-ind, reached-ind, bad, read-refusal, Told, reached, halted, told-at, told-refused, told-map, numbers-is, numbers-refused, is-numbers}
 use Rattle.replay.proofs.Walks.{run-told, label-is, label-refused, is-label}
 use Rattle.replay.proofs.Regions.{parts-clocks, clocks-key}

@@ -16,7 +16,7 @@ use Rattle.theory.proofs.Region.{lawful-law, allowed-law}
 use Rattle.theory.proofs.System.{start-below}
 use Rattle.theory.proofs.StateGraph.{start-allowed}
 use Rattle.number.specs.declared.Number.{Number}
-use Rattle.number.specs.Number.{readNumber}
+use Rattle.number.specs.Number.{readNumber, onNumber}
 use Rattle.region.specs.declared.Region.{Region}
 use Rattle.region.specs.Limits.{Clocks}
 use Rattle.region.specs.View.{view, structOf, Known}
@@ -34,7 +34,7 @@ use Rattle.replay.specs.declared.Step.{Step}
 use Rattle.replay.specs.declared.Reached.{Reached}
 use Rattle.replay.specs.declared.read.Reading.{Reading}
 use Rattle.replay.specs.declared.Reached.the-variants.{At, Refused}
-use Rattle.replay.specs.Trail.{onNumber, flowTo, closedWalk, Numbers, got, refused, onNumbers, numbersAt, onRegion, stateBeside, faceTo, touchTo, kindStep, trailStep}
+use Rattle.replay.specs.Trail.{flowTo, closedWalk, Numbers, got, refused, onNumbers, numbersAt, onRegion, stateBeside, faceTo, touchTo, kindStep, trailStep}
 use Rattle.replay.specs.Steps.{threeOf, onThree, regionStep, keptRegion, regionAt, jumpAt, kindAt, stepAt, onReading, goTo, stepTo}
 use Rattle.replay.proofs.Ways.{numbers-is}
 use Rattle.replay.proofs.Regions.{keptOf, kept-view, kept-harmless}

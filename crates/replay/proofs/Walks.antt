@@ -12,14 +12,14 @@ use Rattle.theory.specs.Labels.{opens}
 use Rattle.theory.proofs.Below.{cond-ind}
 use Rattle.number.specs.declared.Number.{Number}
 use Rattle.number.specs.declared.Number.the-variants.{Value, Refused}
-use Rattle.number.specs.Number.{readNumber}
+use Rattle.number.specs.Number.{readNumber, onNumber}
 use Rattle.model.specs.declared.Model.{Model}
 use Rattle.graph.specs.Plan.{labelledOfModel}
 use Rattle.replay.specs.declared.Reached.{Reached}
 use Rattle.replay.specs.Spelling.{labelNumbers}
-use Rattle.replay.specs.Trail.{onNumber, onReached, run, flowTo, jumpLabel, kindLabel, labelAt, walkStep, closedWalk}
+use Rattle.replay.specs.Trail.{onReached, run, flowTo, jumpLabel, kindLabel, labelAt, walkStep, closedWalk}
 use Rattle.replay.specs.Steps.{stepsEnd, walkPart}
-use Rattle.replay.proofs.Numbers.{Reads, none, more, value-within, reads-first, reads-end, number-suffix, moved, number-prefix}
+use Rattle.number.proofs.Sequence.{Reads, none, more, value-within, reads-first, reads-end, number-suffix, moved, number-prefix}
 use Rattle.replay.proofs.Ways.{number-ind, Refusal, bad, read-refusal, Told, reached, halted, told-map}
 use Rattle.replay.specs.declared.Reached.the-variants as reached
 

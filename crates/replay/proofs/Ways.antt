@@ -5,11 +5,11 @@ use mathlib.Core.Logic.{_⊎_, inl, inr}
 use mathlib.Core.List.{List, _∷_}
 use lib.ListN.{length}
 use Rattle.number.specs.declared.Number.{Number}
-use Rattle.number.specs.Number.{readNumber}
+use Rattle.number.specs.Number.{readNumber, onNumber}
 use Rattle.replay.specs.declared.Reached.{Reached}
 use Rattle.replay.specs.declared.Reached.the-variants.{At, Refused}
-use Rattle.replay.specs.Trail.{onNumber, onReached, Numbers, got, refused, onNumbers, numbersAt}
-use Rattle.replay.proofs.Numbers.{Reads, none, more, refused-within}
+use Rattle.replay.specs.Trail.{onReached, Numbers, got, refused, onNumbers, numbersAt}
+use Rattle.number.proofs.Sequence.{Reads, none, more, refused-within}
 use Rattle.number.specs.declared.Number.the-variants as number
 
 -- a property of each way is one of what comes of the reading

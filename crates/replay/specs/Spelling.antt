@@ -2,18 +2,13 @@
 use Prim.Native.Nat.{ℕ, zero, suc}
 use mathlib.Core.List.{List, [], _∷_, _++_}
 use lib.ListN.{length}
-use Rattle.number.specs.Number.{Spells}
+use Rattle.number.specs.Sequence.{SpellsAll}
 use Rattle.theory.specs.Automaton.{Automaton}
 use Rattle.theory.specs.Enumeration.{key}
 use Rattle.theory.specs.StateGraph.{regionOf}
 use Rattle.theory.specs.Replay.{Move, flow-by, face-to, touch-to, Passes}
 use Rattle.model.specs.declared.Model.{Model}
 use Rattle.graph.specs.Plan.{automatonOf, labelledOfModel}
-
--- Bytes that spell numbers one after the other, with nothing after. "Zero padding is allowed", so that numbers have many spellings.
-pub data SpellsAll : List ℕ → List ℕ → Type 0 where
-  none : SpellsAll [] []
-  more : {g bs vs : List ℕ} {v : ℕ} → Spells g v → SpellsAll bs vs → SpellsAll (g ++ bs) (v ∷ vs)
 
 -- "0 time; 1 jump, edge number": a time or jump step by its label
 abbrev pub labelNumbers : ℕ → List ℕ

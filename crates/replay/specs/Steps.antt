@@ -5,7 +5,7 @@ use mathlib.Core.List.{List}
 use lib.ListN.{length, getD, take, drop}
 use lib.Dec.{ltb, leb, eqb}
 use Rattle.theory.specs.Region.{Clock, lawful}
-use Rattle.number.specs.Number.{readNumber}
+use Rattle.number.specs.Number.{readNumber, onNumber}
 use Rattle.model.specs.declared.Model.{Model}
 use Rattle.region.specs.declared.Region.{Region}
 use Rattle.region.specs.Limits.{mostClocks, mostCeiling}
@@ -18,7 +18,7 @@ use Rattle.replay.specs.declared.Reached.{Reached}
 use Rattle.replay.specs.declared.Reached.the-variants.{At, Refused}
 use Rattle.replay.specs.declared.read.Three.{Three}
 use Rattle.replay.specs.declared.read.Reading.{Reading}
-use Rattle.replay.specs.Trail.{onNumber, flowTo, labelAt, Numbers, got, refused, numbersAt, stateBeside, faceTo, touchTo}
+use Rattle.replay.specs.Trail.{flowTo, labelAt, Numbers, got, refused, numbersAt, stateBeside, faceTo, touchTo}
 use Rattle.replay.specs.declared.read.Three.the-variants as three
 use Rattle.replay.specs.declared.read.Reading.the-variants as reading
 

@@ -9,17 +9,12 @@ use Rattle.theory.specs.Region.{Region, clocks, lawful}
 use Rattle.theory.specs.StateGraph.{locationOf, numberOf}
 use Rattle.theory.specs.Labels.{opens}
 use Rattle.number.specs.declared.Number.{Number}
-use Rattle.number.specs.Number.{readNumber}
+use Rattle.number.specs.Number.{readNumber, onNumber}
 use Rattle.model.specs.declared.Model.{Model}
 use Rattle.graph.specs.Plan.{automatonOf, systemOfModel, labelledOfModel}
 use Rattle.replay.specs.declared.Reached.{Reached}
 use Rattle.replay.specs.declared.Reached.the-variants.{At, Refused}
 use Rattle.number.specs.declared.Number.the-variants as number
-
--- go on with a number and the offset after it, or stop with its refusal, 1 or 2
-abbrev pub onNumber : {A : Type 0} → Number → (ℕ → ℕ → A) → (ℕ → A) → A
-onNumber (number.Value v p) go stop = go v p
-onNumber (number.Refused r) go stop = stop r
 
 abbrev pub onReached : {A : Type 0} → Reached → (ℕ → ℕ → A) → (ℕ → A) → A
 onReached (At q at) go stop = go q at

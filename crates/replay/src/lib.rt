@@ -162,7 +162,7 @@ pub fn replay(m: Model, table: &[u32], bytes: &[u8], at: usize) -> u8
 {
     let got = number::read(bytes, at);
     let Number::Value(count, p) = got else {
-        return read::number_refusal(got);
+        return number::refusal_of(got);
     };
     let done = all_steps(m, table, bytes, p, count);
     let Reached::At(s, end) = done else {

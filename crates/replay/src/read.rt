@@ -2,7 +2,6 @@
 ghost use mathlib.Core.Path.{_≡_};
 ghost use Rattle.region.specs.Limits.{Clocks};
 ghost use Rattle.replay.specs.Trail.{labelAt, numbersAt};
-ghost use Rattle.model.specs.Parse.{numberRefusal};
 ghost use Rattle.replay.specs.Steps.{threeRefusal, stepRefusal, threeOf, capped, jumpAt, regionAt, stepAt};
 use crate::Step;
 use number::Number;
@@ -18,16 +17,6 @@ pub enum Three {
 pub enum Reading {
     Read(Step, usize),
     Refused(u8),
-}
-
-// The refusal of a number, 0 where it has a value.
-pub fn number_refusal(n: Number) -> u8
-    ensures { λ r. ⌜ r ≡ numberRefusal n ⌝ }
-{
-    match n {
-        Number::Value(_, _) => 0,
-        Number::Refused(r) => r,
-    }
 }
 
 fn three_refusal(t: Three) -> u8
@@ -55,21 +44,21 @@ fn read_three(bytes: &[u8], at: usize, clocks: u8) -> Three
 {
     let first = number::read(bytes, at);
     let Number::Value(a, p) = first else {
-        return Three::Refused(number_refusal(first));
+        return Three::Refused(number::refusal_of(first));
     };
     if clocks < 2 {
         return Three::Numbers(a, 0, 0, p);
     }
     let second = number::read(bytes, p);
     let Number::Value(b, q) = second else {
-        return Three::Refused(number_refusal(second));
+        return Three::Refused(number::refusal_of(second));
     };
     if clocks < 3 {
         return Three::Numbers(a, b, 0, q);
     }
     let third = number::read(bytes, q);
     let Number::Value(c, end) = third else {
-        return Three::Refused(number_refusal(third));
+        return Three::Refused(number::refusal_of(third));
     };
     Three::Numbers(a, b, c, end)
 }
@@ -113,7 +102,7 @@ fn read_jump(bytes: &[u8], at: usize) -> Reading
 {
     let got = number::read(bytes, at);
     let Number::Value(e, p) = got else {
-        return Reading::Refused(number_refusal(got));
+        return Reading::Refused(number::refusal_of(got));
     };
     Reading::Read(Step::Jump(e), p)
 }
@@ -125,7 +114,7 @@ pub fn read_step(bytes: &[u8], at: usize, clocks: u8) -> Reading
 {
     let got = number::read(bytes, at);
     let Number::Value(kind, p) = got else {
-        return Reading::Refused(number_refusal(got));
+        return Reading::Refused(number::refusal_of(got));
     };
     if kind == 0 {
         return Reading::Read(Step::Time, p);

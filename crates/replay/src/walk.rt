@@ -57,7 +57,7 @@ fn walk_step(m: Model, table: &[u32], part: &[u8], s: usize, at: usize) -> Reach
 {
     let got = read::read_label(part, at);
     let Number::Value(x, p) = got else {
-        return Reached::Refused(read::number_refusal(got));
+        return Reached::Refused(number::refusal_of(got));
     };
     if x == 0 {
         return to_time(m, table, s, p);
@@ -120,7 +120,7 @@ pub fn closed_walk(m: Model, table: &[u32], bytes: &[u8], q: usize, at: usize) -
 {
     let got = number::read(bytes, at);
     let Number::Value(count, p) = got else {
-        return Reached::Refused(read::number_refusal(got));
+        return Reached::Refused(number::refusal_of(got));
     };
     if count == 0 {
         return Reached::Refused(13);

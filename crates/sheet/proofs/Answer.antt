@@ -6,8 +6,7 @@ use mathlib.Core.List.{List, [], _∷_, _++_}
 use Prim.Native.Nat.{ℕ, zero, suc, _+_, _-_, _*_, _≤_, _<_}
 use native.Mathlib.Omega.{arith}
 use native.Mathlib.Nat.{add-zero, zero-add}
-use lib.ListN.{length, getD, drop, length-drop, drop-of-length-le}
-use lib.Seq.{drop-drop, drop-append-seam}
+use lib.ListN.{length, getD, drop}
 use lib.Dec.{ltb}
 use borrow.Author.Tests.{ltb-false, lt-ltb, le-ltb}
 use Rattle.theory.specs.System.{System, Laws}
@@ -15,40 +14,18 @@ use Rattle.theory.specs.Sheet.{Sheet, keeps, inOf, heightOf}
 use Rattle.theory.proofs.Below.{either, cond-ind, test↔, leb↔, eqb↔, and↔, or↔}
 use Rattle.theory.proofs.Sheet.{keeps-law}
 use Rattle.number.specs.declared.Number.{Number}
-use Rattle.number.specs.Number.{readNumber}
-use Rattle.number.proofs.Laws.{read-value, Sound, sound}
+use Rattle.number.specs.Number.{readNumber, onNumber}
+use Rattle.number.specs.Sequence.{SpellsAll}
+use Rattle.number.proofs.Laws.{Sound, sound}
+use Rattle.number.proofs.Sequence.{Reads, none, more, reads-spell, spell-reads}
 use Rattle.model.specs.declared.Model.{Model}
 use Rattle.model.specs.Model.{Lawful}
 use Rattle.graph.specs.Plan.{systemOfModel}
 use Rattle.graph.proofs.Models.{system-laws}
-use Rattle.sheet.specs.Numbers.{SpellsAll, none, more, Numbers, got, stop, onNumber, onNumbers, after, numberKeeps, numbersFrom}
+use Rattle.sheet.specs.Numbers.{Numbers, got, stop, onNumbers, after, numberKeeps, numbersFrom}
 use Rattle.sheet.specs.Rules.{Blank}
 use Rattle.sheet.specs.Answer.{sheetNumbers, sheetRefusal, sheetAnswer}
 use Rattle.number.specs.declared.Number.the-variants as number
-
--- ---- numbers one after the other, by the offsets at which they are read
-
-data Reads (bs : List ℕ) : ℕ → List ℕ → ℕ → Type 0 where
-  none-left : {at : ℕ} → Reads bs at [] at
-  one-more : {at v p e : ℕ} {l : List ℕ} → readNumber bs at ≡ number.Value v p → Reads bs p l e → Reads bs at (v ∷ l) e
-
-module _ (bs : List ℕ) where
-  after-first : (at : ℕ) (g rest : List ℕ) → drop at bs ≡ g ++ rest → drop (at + length g) bs ≡ rest
-  after-first at g rest d = sym (drop-drop (length g) at bs) ∙ ap (drop (length g)) d ∙ drop-append-seam g rest
-
-  reads-spell : {at e : ℕ} {l : List ℕ} → Reads bs at l e → length bs ≤ e → SpellsAll (drop at bs) l
-  reads-spell {at} none-left h = rw (drop-of-length-le bs h) none
-  reads-spell {at} (one-more {v = v} {p = p} r w) h =
-      let (g, rest, d, s, q) = read-value bs at v p .0 r in
-      let e : drop p bs ≡ rest = ap (λ (k : ℕ). drop k bs) q ∙ after-first at g rest d in
-      more d s (rw e at (reads-spell w h))
-
-  spell-reads : {xs l : List ℕ} → SpellsAll xs l → (at : ℕ) → drop at bs ≡ xs → (e : ℕ) × Reads bs at l e × (length bs ≤ e)
-  spell-reads none at d = (at, none-left, omega (arith, length-drop at bs, ap length d))
-  spell-reads (more {g = g} {rest = rest} {v = v} c s w) at d =
-      let r = read-value bs at v (at + length g) .1 (g, rest, d ∙ c, s, refl) in
-      let (e, u, h) = spell-reads w (at + length g) (after-first at g rest (d ∙ c)) in
-      (e, one-more r u, h)
 
 -- ---- the reading
 
@@ -77,8 +54,8 @@ module _ (allowed : ℕ → Bool) (top : ℕ) (bs : List ℕ) where
   -- numbers that keep are read
   reads-numbers : {at e : ℕ} {l : List ℕ} (i : ℕ) → Reads bs at l e → Keep allowed top i l → numbersFrom allowed top bs (length l) i at ≡ got l e
   unfolding numbersFrom
-  reads-numbers i none-left k = refl
-  reads-numbers i (one-more {v = v} {p = p} {l = l} r w) k =
+  reads-numbers i none k = refl
+  reads-numbers i (more {to = p} {v = v} {vs = l} r w) k =
       let t = first-keeps i v l k in
       let ih = reads-numbers (i + 1) w (rest-keeps i v l k) in
       simp (r, t, ih)
@@ -90,12 +67,12 @@ module _ (allowed : ℕ → Bool) (top : ℕ) (bs : List ℕ) where
 
   answers : (n i at : ℕ) → Answers n i at (numbersFrom allowed top bs n i at)
   unfolding numbersFrom Answers Keep
-  answers zero i at = (refl, none-left, λ j h. absurd (omega arith))
+  answers zero i at = (refl, none, λ j h. absurd (omega arith))
   answers (suc n) i at = by (answers n (i + 1)) (readNumber bs at) refl (sound bs at)
     where
       next : (v p : ℕ) → readNumber bs at ≡ number.Value v p → numberKeeps (allowed i) top v ≡ true → (c : Numbers) → Answers n (i + 1) p c
           → Answers (suc n) i at (after (v ∷ []) c)
-      next v p r t (got l e) (h, w, k) = (ap suc h, one-more r w, both-keep i v l t k)
+      next v p r t (got l e) (h, w, k) = (ap suc h, more r w, both-keep i v l t k)
       next v p r t (stop x) h = h
 
       by : ((p : ℕ) → Answers n (i + 1) p (numbersFrom allowed top bs n (i + 1) p)) → (x : Number) → readNumber bs at ≡ x → Sound bs at x

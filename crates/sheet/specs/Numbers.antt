@@ -6,30 +6,19 @@ use Prim.Native.Nat.{ℕ, zero, suc, _+_}
 use lib.ListN.{getD}
 use lib.Dec.{leb, eqb}
 use Rattle.number.specs.declared.Number.{Number}
-use Rattle.number.specs.Number.{Spells, readNumber}
+use Rattle.number.specs.Number.{readNumber, onNumber}
 use Rattle.sheet.specs.declared.read.Extent.{Extent}
 use Rattle.sheet.specs.declared.read.Extent.the-variants.{End, Refused}
 use Rattle.number.specs.declared.Number.the-variants as number
 
--- ---- what is meant
-
--- The bytes spell the numbers, one after the other, with nothing after. Padding is allowed, so a list of numbers may be spelled in several ways.
-pub data SpellsAll : List ℕ → List ℕ → Type 0 where
-  none : SpellsAll [] []
-  more : {bs g rest l : List ℕ} {v : ℕ} → bs ≡ g ++ rest → Spells g v → SpellsAll rest l → SpellsAll bs (v ∷ l)
-
--- ---- what computes it: "sheet numbers in order by 1, 2, 11"
+-- ---- "sheet numbers in order by 1, 2, 11"
 
 -- numbers and the offset after them, or the refusal of one
 pub data Numbers : Type 0 where
   got : List ℕ → ℕ → Numbers
   stop : ℕ → Numbers
 
--- go on with a number and the offset after it, or stop with its refusal
-abbrev pub onNumber : {A : Type 0} → Number → (ℕ → ℕ → A) → (ℕ → A) → A
-onNumber (number.Value v p) go halt = go v p
-onNumber (number.Refused r) go halt = halt r
-
+-- go on with the numbers and the offset after them, or stop with the refusal
 abbrev pub onNumbers : {A : Type 0} → Numbers → (List ℕ → ℕ → A) → (ℕ → A) → A
 onNumbers (got l e) go halt = go l e
 onNumbers (stop r) go halt = halt r
@@ -67,10 +56,6 @@ numbersOf (End e) l = got l e
 numbersOf (Refused r) l = stop r
 
 -- the refusal, 0 where there is none
-abbrev pub numberRefusal : Number → ℕ
-numberRefusal (number.Value v p) = 0
-numberRefusal (number.Refused r) = r
-
 abbrev pub refusalOf : Extent → ℕ
 refusalOf (End e) = 0
 refusalOf (Refused r) = r

@@ -4,7 +4,7 @@ ghost use mathlib.Core.Path.{_≡_};
 ghost use Prim.Native.Nat.{_-_, _*_, _<_, _≤_};
 ghost use lib.ListN.{length};
 ghost use lib.Dec.{eqb};
-ghost use Rattle.sheet.specs.Numbers.{mostStates, numberKeeps, numbersFrom, flagged, numbersOf, numberRefusal, refusalOf};
+ghost use Rattle.sheet.specs.Numbers.{mostStates, numberKeeps, numbersFrom, flagged, numbersOf, refusalOf};
 use number::Number;
 
 // Where the numbers end, or the refusal of one.
@@ -19,15 +19,6 @@ pub fn refusal(e: Extent) -> u8
     match e {
         Extent::End(_) => 0,
         Extent::Refused(r) => r,
-    }
-}
-
-fn number_refusal(n: Number) -> u8
-    ensures { λ r. ⌜ r ≡ numberRefusal n ⌝ }
-{
-    match n {
-        Number::Value(_, _) => 0,
-        Number::Refused(r) => r,
     }
 }
 
@@ -59,7 +50,7 @@ pub fn read_numbers(bytes: &[u8], at: usize, allowed: &[u8], sheet: &mut [u16]) 
     while i < sheet.len() {
         let got = number::read(bytes, end);
         let Number::Value(v, next) = got else {
-            return Extent::Refused(number_refusal(got));
+            return Extent::Refused(number::refusal_of(got));
         };
         if !number_keeps(allowed[i], top, v) {
             return Extent::Refused(11);

@@ -9,6 +9,7 @@ ghost use Rattle.graph.specs.States.{Listed, states};
 ghost use Rattle.region_steps.specs.Codes.{maskCount};
 ghost use Rattle.region_steps.specs.Tables.{Indexed};
 ghost use Rattle.successors.specs.Flow.{regionsIn, FlowLists};
+ghost use Rattle.successors.specs.Flags.{AllowedFlags};
 ghost use Rattle.region_corners.specs.Limits.{slotCount, pointCount, mostFaces};
 ghost use Rattle.survey.specs.Surveyed.{Corners, Surveyed};
 use model::Model;
@@ -34,7 +35,7 @@ const MAX_RESETS: usize = MASKS as usize * LENGTH;
 // A flag for each location and point.
 const MAX_FLAGS: usize = model::LOCATION_SLOTS * POINTS;
 
-// The time and jump steps of all states.
+// The time and jump steps of all states, and which are allowed.
 fn fill_steps(
     m: Model,
     table: &[u32],
@@ -48,7 +49,7 @@ fn fill_steps(
     requires { ⌜ Lawful m × Listed m (now table) × Indexed (m .clocks) (m .ceiling) (now index) ⌝ }
     requires { ⌜ (length (now later) ≡ regionsIn m) × (length (now moved) ≡ maskCount * regionsIn m) × (length (now allowed) ≡ states m)
         × (length (now first) ≡ states m + 1) × (states m + m .edges * regionsIn m ≤ length (now targets)) ⌝ }
-    ensures { λ _. ⌜ FlowLists m (now (first .exit)) (now (targets .exit)) ⌝ }
+    ensures { λ _. ⌜ AllowedFlags m (now (allowed .exit)) × FlowLists m (now (first .exit)) (now (targets .exit)) ⌝ }
 {
     let n = m.clocks;
     let ceiling = m.ceiling;
@@ -59,24 +60,30 @@ fn fill_steps(
 }
 
 // The same with tables by region of its own.
-fn list_steps(m: Model, table: &[u32], index: &[u16], first: &mut [u32], targets: &mut [u16])
+fn list_steps(
+    m: Model,
+    table: &[u32],
+    index: &[u16],
+    allowed: &mut [u8],
+    first: &mut [u32],
+    targets: &mut [u16],
+)
     requires { ⌜ Lawful m × Listed m (now table) × Indexed (m .clocks) (m .ceiling) (now index) ⌝ }
-    requires { ⌜ (length (now first) ≡ states m + 1) × (states m + m .edges * regionsIn m ≤ length (now targets)) ⌝ }
-    ensures { λ _. ⌜ FlowLists m (now (first .exit)) (now (targets .exit)) ⌝ }
+    requires { ⌜ (length (now allowed) ≡ states m) × (length (now first) ≡ states m + 1)
+        × (states m + m .edges * regionsIn m ≤ length (now targets)) ⌝ }
+    ensures { λ _. ⌜ AllowedFlags m (now (allowed .exit)) × FlowLists m (now (first .exit)) (now (targets .exit)) ⌝ }
 {
     let mut later = [0u16; LENGTH];
     let mut moved = [0u16; MAX_RESETS];
-    let mut allowed = [0u8; MAX_STATES];
     let r = table.len();
     let masked = MASKS as usize * r;
-    let s = graph::state_count(m);
     fill_steps(
         m,
         table,
         index,
         &mut later[..r],
         &mut moved[..masked],
-        &mut allowed[..s],
+        allowed,
         first,
         targets,
     );
@@ -109,6 +116,7 @@ fn list_regions(
 pub fn fill_tables(
     m: Model,
     table: &[u32],
+    allowed: &mut [u8],
     first: &mut [u32],
     targets: &mut [u16],
     rows: &mut [u16],
@@ -118,15 +126,16 @@ pub fn fill_tables(
     link: &mut [u16],
 )
     requires { ⌜ Lawful m × Listed m (now table) ⌝ }
-    requires { ⌜ (length (now first) ≡ states m + 1) × (states m + m .edges * regionsIn m ≤ length (now targets))
+    requires { ⌜ (length (now allowed) ≡ states m)
+        × (length (now first) ≡ states m + 1) × (states m + m .edges * regionsIn m ≤ length (now targets))
         × (length (now rows) ≡ regionsIn m + 1) × (mostFaces * regionsIn m ≤ length (now faces)) × (length (now corner) ≡ slotCount * regionsIn m)
         × (length (now head) ≡ pointCount) × (length (now link) ≡ slotCount * regionsIn m) ⌝ }
-    ensures { λ _. ⌜ FlowLists m (now (first .exit)) (now (targets .exit))
+    ensures { λ _. ⌜ AllowedFlags m (now (allowed .exit)) × FlowLists m (now (first .exit)) (now (targets .exit))
         × Corners m (now (rows .exit)) (now (faces .exit)) (now (corner .exit)) (now (head .exit)) (now (link .exit)) ⌝ }
 {
     let mut index = [0u16; CODES];
     region_steps::fill_index(m.clocks, m.ceiling, table, &mut index);
-    list_steps(m, table, &index, first, targets);
+    list_steps(m, table, &index, allowed, first, targets);
     list_regions(m, table, &index, rows, faces, corner, head, link);
 }
 
@@ -177,6 +186,7 @@ pub fn search(
 fn fill_and_search(
     m: Model,
     table: &[u32],
+    allowed: &mut [u8],
     first: &mut [u32],
     targets: &mut [u16],
     rows: &mut [u16],
@@ -190,14 +200,15 @@ fn fill_and_search(
     spare: &mut [u16],
 )
     requires { ⌜ Lawful m × Listed m (now table) ⌝ }
-    requires { ⌜ (length (now first) ≡ states m + 1) × (states m + m .edges * regionsIn m ≤ length (now targets))
+    requires { ⌜ (length (now allowed) ≡ states m)
+        × (length (now first) ≡ states m + 1) × (states m + m .edges * regionsIn m ≤ length (now targets))
         × (length (now rows) ≡ regionsIn m + 1) × (mostFaces * regionsIn m ≤ length (now faces)) × (length (now corner) ≡ slotCount * regionsIn m)
         × (length (now head) ≡ pointCount) × (length (now link) ≡ slotCount * regionsIn m) ⌝ }
     requires { ⌜ (length (now info) ≡ states m) × (length (now far) ≡ states m) × (length (now queue) ≡ states m)
         × (length (now spare) ≡ states m) ⌝ }
     ensures { λ _. ⌜ Surveyed m (now (info .exit)) (now (far .exit)) ⌝ }
 {
-    fill_tables(m, table, first, targets, rows, faces, corner, head, link);
+    fill_tables(m, table, allowed, first, targets, rows, faces, corner, head, link);
     search(
         m,
         first,
@@ -228,6 +239,7 @@ fn survey_regions(
         × (length (now spare) ≡ states m) ⌝ }
     ensures { λ _. ⌜ Surveyed m (now (info .exit)) (now (far .exit)) ⌝ }
 {
+    let mut allowed = [0u8; MAX_STATES];
     let mut first = [0u32; MAX_STATES + 1];
     let mut targets = [0u16; MAX_STEPS];
     let mut rows = [0u16; LENGTH + 1];
@@ -236,12 +248,14 @@ fn survey_regions(
     let mut head = [0u16; POINTS];
     let mut link = [0u16; MAX_SLOTS];
     let r = table.len();
-    let firsts = info.len() + 1;
+    let s = info.len();
+    let firsts = s + 1;
     let starts = r + 1;
     let slots = SLOTS * r;
     fill_and_search(
         m,
         table,
+        &mut allowed[..s],
         &mut first[..firsts],
         &mut targets,
         &mut rows[..starts],

@@ -2,7 +2,7 @@
 use mathlib.Core.Path.{sym, ap, _∙_}
 use borrow.Author.Needs.{needs}
 use borrow.Author.Tests.{lt-ltb, le-ltb}
-use Rattle.model.specs.Parse.{numberRefusal}
+use Rattle.number.specs.Number.{numberRefusal}
 use Rattle.replay.specs.Trail.{trailAnswer}
 use Rattle.replay.specs.Steps.{reachedRefusal}
 use Rattle.replay.proofs.Replays.{steps-below}
@@ -20,7 +20,7 @@ replay-spec =
     (λ c κs. search needs)
     (λ c. let t = c .before in
     let told = t .enum-told .given .1 in
-    simp (sym (t .before .before .read .ensures) ∙ told) (c .number-refusal .ensures ∙ ap numberRefusal told))
+    simp (sym (t .before .before .read .ensures) ∙ told) (c .refusal-of .ensures ∙ ap numberRefusal told))
     (λ c κs. search needs)
     (λ c. search needs)
     (λ c. search needs)

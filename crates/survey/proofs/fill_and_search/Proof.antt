@@ -8,9 +8,9 @@ fill-tables-requires c κs = search needs
 
 search-requires : tie.Need-search-requires
 search-requires c κs =
-    let start = c .before .before .before .before .before .before .before .before .before .before .before .before .before .before .before .before .before .before .before .before .before .before .before .before .before .before .before .before .before .before .before .before .before .before .before .before .before .before .before .before .before .before .before .before .before in
-    let tables = c .before .before .before .before .before .before .before .before .before .before .before .before .before .before .before .before .before .before .before .before .before .before .before .before .before .fill-tables .ensures in
-    ((start .pre .0 .0, tables .0, tables .1), start .pre .1 .1)
+    let start = c .before .before .before .before .before .before .before .before .before .before .before .before .before .before .before .before .before .before .before .before .before .before .before .before .before .before .before .before .before .before .before .before .before .before .before .before .before .before .before .before .before .before .before .before .before .before .before .before .before in
+    let tables = c .before .before .before .before .before .before .before .before .before .before .before .before .before .before .before .before .before .before .before .before .before .before .before .before .before .before .before .fill-tables .ensures in
+    ((start .pre .0 .0, tables .1, tables .2), start .pre .1 .1)
 
 same-length : tie.Need-same-length
 same-length c = search needs
@@ -45,6 +45,9 @@ same-length-10 c = search needs
 same-length-11 : tie.Need-same-length-11
 same-length-11 c = search needs
 
+same-length-12 : tie.Need-same-length-12
+same-length-12 c = search needs
+
 returns : tie.Need-returns
 returns c = search needs
 
@@ -65,4 +68,5 @@ fill-and-search-spec =
     same-length-9
     same-length-10
     same-length-11
+    same-length-12
     returns)

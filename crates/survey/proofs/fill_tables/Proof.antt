@@ -20,10 +20,10 @@ slice-aggregate-list-regions c = search needs
 
 list-regions-requires : tie.Need-list-regions-requires
 list-regions-requires c κs =
-    let start = c .before .before .before .before .before .before .before .before .before .before .before .before .before .before .before .before .before .before .before .before .before .before .before .before .before in
+    let start = c .before .before .before .before .before .before .before .before .before .before .before .before .before .before .before .before .before .before .before .before .before .before .before .before .before .before .before .before .before in
     let size = start .pre .1 in (
-      (start .pre .0 .0, start .pre .0 .1, c .before .before .before .before .before .before .before .before .before .before .before .before .before .before .before .fill-index .ensures),
-      (size .2, size .3, size .4, size .5, size .6),
+      (start .pre .0 .0, start .pre .0 .1, c .before .before .before .before .before .before .before .before .before .before .before .before .before .before .before .before .before .before .fill-index .ensures),
+      (size .3, size .4, size .5, size .6, size .7),
     )
 
 same-length : tie.Need-same-length
@@ -47,6 +47,9 @@ same-length-6 c = search needs
 same-length-7 : tie.Need-same-length-7
 same-length-7 c = search needs
 
+same-length-8 : tie.Need-same-length-8
+same-length-8 c = search needs
+
 returns : tie.Need-returns
 returns c = search needs
 
@@ -67,4 +70,5 @@ fill-tables-spec =
     same-length-5
     same-length-6
     same-length-7
+    same-length-8
     returns)

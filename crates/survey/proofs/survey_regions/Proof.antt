@@ -17,50 +17,58 @@ add-starts c = search needs
 mul-slots : tie.Need-mul-slots
 mul-slots c = search needs
 
-array-borrow-prefix-first : tie.Need-array-borrow-prefix-first
-array-borrow-prefix-first c =
+array-borrow-prefix-allowed : tie.Need-array-borrow-prefix-allowed
+array-borrow-prefix-allowed c =
     let start = c .before .before .before .before .before in omega (arith, start .pre .1 .0, states-short (start .args .m) (start .pre .0 .0))
 
 slice-aggregate-fill-and-search : tie.Need-slice-aggregate-fill-and-search
 slice-aggregate-fill-and-search c =
-    let start = c .before .before .before .before .before .before in prefix-long _ 15817 (omega (arith, start .pre .1 .0, states-short (start .args .m) (start .pre .0 .0)))
+    let start = c .before .before .before .before .before .before in prefix-long _ 15816 (omega (arith, start .pre .1 .0, states-short (start .args .m) (start .pre .0 .0)))
+
+array-borrow-prefix-first : tie.Need-array-borrow-prefix-first
+array-borrow-prefix-first c =
+    let start = c .before .before .before .before .before .before in omega (arith, start .pre .1 .0, states-short (start .args .m) (start .pre .0 .0))
 
 slice-aggregate-fill-and-search-2 : tie.Need-slice-aggregate-fill-and-search-2
-slice-aggregate-fill-and-search-2 c = search needs
+slice-aggregate-fill-and-search-2 c =
+    let start = c .before .before .before .before .before .before .before in prefix-long _ 15817 (omega (arith, start .pre .1 .0, states-short (start .args .m) (start .pre .0 .0)))
+
+slice-aggregate-fill-and-search-3 : tie.Need-slice-aggregate-fill-and-search-3
+slice-aggregate-fill-and-search-3 c = search needs
 
 array-borrow-prefix-rows : tie.Need-array-borrow-prefix-rows
 array-borrow-prefix-rows c =
-    let start = c .before .before .before .before .before .before .before in omega (arith, table-short (start .args .m) (start .pre .0 .0) _ (start .pre .0 .1))
-
-slice-aggregate-fill-and-search-3 : tie.Need-slice-aggregate-fill-and-search-3
-slice-aggregate-fill-and-search-3 c =
-    let start = c .before .before .before .before .before .before .before .before in prefix-long _ 1978 (omega (arith, table-short (start .args .m) (start .pre .0 .0) _ (start .pre .0 .1)))
+    let start = c .before .before .before .before .before .before .before .before in omega (arith, table-short (start .args .m) (start .pre .0 .0) _ (start .pre .0 .1))
 
 slice-aggregate-fill-and-search-4 : tie.Need-slice-aggregate-fill-and-search-4
-slice-aggregate-fill-and-search-4 c = search needs
+slice-aggregate-fill-and-search-4 c =
+    let start = c .before .before .before .before .before .before .before .before .before in prefix-long _ 1978 (omega (arith, table-short (start .args .m) (start .pre .0 .0) _ (start .pre .0 .1)))
+
+slice-aggregate-fill-and-search-5 : tie.Need-slice-aggregate-fill-and-search-5
+slice-aggregate-fill-and-search-5 c = search needs
 
 array-borrow-prefix-corner : tie.Need-array-borrow-prefix-corner
 array-borrow-prefix-corner c =
-    let start = c .before .before .before .before .before .before .before .before .before in omega (arith, table-short (start .args .m) (start .pre .0 .0) _ (start .pre .0 .1))
-
-slice-aggregate-fill-and-search-5 : tie.Need-slice-aggregate-fill-and-search-5
-slice-aggregate-fill-and-search-5 c =
-    let start = c .before .before .before .before .before .before .before .before .before .before in prefix-long _ 7908 (omega (arith, table-short (start .args .m) (start .pre .0 .0) _ (start .pre .0 .1)))
+    let start = c .before .before .before .before .before .before .before .before .before .before in omega (arith, table-short (start .args .m) (start .pre .0 .0) _ (start .pre .0 .1))
 
 slice-aggregate-fill-and-search-6 : tie.Need-slice-aggregate-fill-and-search-6
-slice-aggregate-fill-and-search-6 c = search needs
+slice-aggregate-fill-and-search-6 c =
+    let start = c .before .before .before .before .before .before .before .before .before .before .before in prefix-long _ 7908 (omega (arith, table-short (start .args .m) (start .pre .0 .0) _ (start .pre .0 .1)))
+
+slice-aggregate-fill-and-search-7 : tie.Need-slice-aggregate-fill-and-search-7
+slice-aggregate-fill-and-search-7 c = search needs
 
 array-borrow-prefix-link : tie.Need-array-borrow-prefix-link
 array-borrow-prefix-link c =
-    let start = c .before .before .before .before .before .before .before .before .before .before .before in omega (arith, table-short (start .args .m) (start .pre .0 .0) _ (start .pre .0 .1))
+    let start = c .before .before .before .before .before .before .before .before .before .before .before .before in omega (arith, table-short (start .args .m) (start .pre .0 .0) _ (start .pre .0 .1))
 
-slice-aggregate-fill-and-search-7 : tie.Need-slice-aggregate-fill-and-search-7
-slice-aggregate-fill-and-search-7 c =
-    let start = c .before .before .before .before .before .before .before .before .before .before .before .before in prefix-long _ 7908 (omega (arith, table-short (start .args .m) (start .pre .0 .0) _ (start .pre .0 .1)))
+slice-aggregate-fill-and-search-8 : tie.Need-slice-aggregate-fill-and-search-8
+slice-aggregate-fill-and-search-8 c =
+    let start = c .before .before .before .before .before .before .before .before .before .before .before .before .before in prefix-long _ 7908 (omega (arith, table-short (start .args .m) (start .pre .0 .0) _ (start .pre .0 .1)))
 
 fill-and-search-requires : tie.Need-fill-and-search-requires
 fill-and-search-requires c κs =
-    let start = c .before .before .before .before .before .before .before .before .before .before .before .before .before .before .before .before in
+    let start = c .before .before .before .before .before .before .before .before .before .before .before .before .before .before .before .before .before in
     let m = start .args .m in
     let ok = start .pre .0 .0 in
     let long = table-long m ok _ (start .pre .0 .1) in
@@ -69,6 +77,7 @@ fill-and-search-requires c κs =
       start .pre .0,
       (
         (
+          sym (prefix-long _ 15816 (omega (arith, states, states-short m ok))) ∙ states,
           sym (prefix-long _ 15817 (omega (arith, states, states-short m ok))) ∙ ap (λ (k : ℕ). k + 1) states,
           steps-room m ok,
           sym (prefix-long _ 1978 (omega (arith, short))) ∙ ap (λ (k : ℕ). k + 1) long,
@@ -103,17 +112,19 @@ survey-regions-spec =
     add-firsts
     add-starts
     mul-slots
-    array-borrow-prefix-first
+    array-borrow-prefix-allowed
     slice-aggregate-fill-and-search
+    array-borrow-prefix-first
     slice-aggregate-fill-and-search-2
-    array-borrow-prefix-rows
     slice-aggregate-fill-and-search-3
+    array-borrow-prefix-rows
     slice-aggregate-fill-and-search-4
-    array-borrow-prefix-corner
     slice-aggregate-fill-and-search-5
+    array-borrow-prefix-corner
     slice-aggregate-fill-and-search-6
-    array-borrow-prefix-link
     slice-aggregate-fill-and-search-7
+    array-borrow-prefix-link
+    slice-aggregate-fill-and-search-8
     fill-and-search-requires
     same-length
     same-length-2

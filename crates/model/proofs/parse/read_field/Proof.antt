@@ -2,7 +2,8 @@
 use borrow.Author.Needs.{needs}
 use borrow.Author.Tests.{le-leb, lt-leb}
 use mathlib.Core.Path.{sym, ap, _∙_}
-use Rattle.model.specs.Parse.{numberRefusal, fieldAt}
+use Rattle.number.specs.Number.{numberRefusal}
+use Rattle.model.specs.Parse.{fieldAt}
 use Rattle.model.specs.declared.parse.Field.the-variants.{Refused}
 use Rattle.model.proofs.parse.read_field.Statement.{statement}
 use Rattle.model.proofs.parse.read_field.Tie as tie
@@ -17,7 +18,7 @@ read-field-spec =
     (λ c. search needs)
     (λ c κs. search needs)
     (λ c. let told = c .before .enum-told .given .1 in
-    simp (sym (c .before .before .before .read .ensures) ∙ told) (ap Refused (c .number-refusal .ensures ∙ ap numberRefusal told)))
+    simp (sym (c .before .before .before .read .ensures) ∙ told) (ap Refused (c .refusal-of .ensures ∙ ap numberRefusal told)))
     (λ c. let c2 = c .before .before in
     simp (sym (c2 .before .before .read .ensures) ∙ c2 .got .given .1, lt-leb _ _ (c .if1 .taken)))
     (λ c. let c3 = c .before .before .before in

@@ -1,7 +1,7 @@
 -- The edge is a number, judged by 1 and 2.
 use mathlib.Core.Path.{sym, ap, _∙_}
 use borrow.Author.Needs.{needs}
-use Rattle.model.specs.Parse.{numberRefusal}
+use Rattle.number.specs.Number.{numberRefusal}
 use Rattle.replay.specs.Steps.{jumpAt}
 use Rattle.replay.proofs.read.read_jump.Statement.{statement}
 use Rattle.replay.specs.declared.read.Reading.the-variants as reading
@@ -18,6 +18,6 @@ read-jump-spec =
     (λ c κs. search needs)
     (λ c. let t = c .before in
     let told = t .enum-told .given .1 in
-    simp (sym (t .before .before .read .ensures) ∙ told) (ap reading.Refused (c .number-refusal .ensures ∙ ap numberRefusal told)))
+    simp (sym (t .before .before .read .ensures) ∙ told) (ap reading.Refused (c .refusal-of .ensures ∙ ap numberRefusal told)))
     (λ c. let g = c .before in
     simp (sym (g .before .before .read .ensures) ∙ g .got .given .1)))

@@ -5,7 +5,7 @@ use mathlib.Core.Path.{_≡_, sym, _∙_}
 use borrow.Author.Needs.{needs}
 use borrow.Author.Tests.{eq-eqb, ne-eqb}
 use Rattle.replay.specs.Trail.{labelAt}
-use Rattle.replay.proofs.Numbers.{value-small}
+use Rattle.number.proofs.Sequence.{value-small}
 use Rattle.replay.proofs.read.read_label.Statement.{statement}
 use Rattle.replay.proofs.read.read_label.Tie as tie
 

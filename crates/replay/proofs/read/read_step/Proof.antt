@@ -2,7 +2,7 @@
 use mathlib.Core.Path.{sym, ap, _∙_}
 use borrow.Author.Needs.{needs}
 use borrow.Author.Tests.{eq-eqb, ne-eqb, lt-ltb, le-ltb}
-use Rattle.model.specs.Parse.{numberRefusal}
+use Rattle.number.specs.Number.{numberRefusal}
 use Rattle.replay.specs.Steps.{stepAt}
 use Rattle.replay.proofs.read.read_step.Statement.{statement}
 use Rattle.replay.specs.declared.read.Reading.the-variants as reading
@@ -19,7 +19,7 @@ read-step-spec =
     (λ c κs. search needs)
     (λ c. let t = c .before in
     let told = t .enum-told .given .1 in
-    simp (sym (t .before .before .read .ensures) ∙ told) (ap reading.Refused (c .number-refusal .ensures ∙ ap numberRefusal told)))
+    simp (sym (t .before .before .read .ensures) ∙ told) (ap reading.Refused (c .refusal-of .ensures ∙ ap numberRefusal told)))
     (λ c. let g = c .before .before in
     simp (sym (g .before .before .read .ensures) ∙ g .got .given .1, eq-eqb _ 0 (c .if1 .taken)))
     (λ c κs. search needs)

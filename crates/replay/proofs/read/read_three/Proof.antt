@@ -1,7 +1,7 @@
 -- One, two or three numbers; the first that is refused ends the reading.
 use mathlib.Core.Path.{sym, ap, _∙_}
 use borrow.Author.Needs.{needs}
-use Rattle.model.specs.Parse.{numberRefusal}
+use Rattle.number.specs.Number.{numberRefusal}
 use Rattle.replay.proofs.Steps.{three-none, three-one, three-no-second, three-two, three-no-third, three-all}
 use Rattle.replay.proofs.read.read_three.Statement.{statement}
 use Rattle.replay.specs.declared.read.Three.the-variants as three
@@ -17,7 +17,7 @@ read-three-spec =
     (λ c κs. search needs)
     (λ c. let t = c .before in let s = t .before .before .before .before in
     let told = t .enum-told .given .1 in
-    ap three.Refused (c .number-refusal .ensures ∙ ap numberRefusal told)
+    ap three.Refused (c .refusal-of .ensures ∙ ap numberRefusal told)
     ∙ three-none _ _ _ (s .pre) _ (sym (t .before .before .read .ensures) ∙ told))
     (λ c. let a = c .before .before in let s = a .before .before .before .before in
     three-one _ _ _ (s .pre) _ _ (sym (a .before .before .read .ensures) ∙ a .first .given .1) (c .if1 .taken))
@@ -28,7 +28,7 @@ read-three-spec =
     (λ c. let t = c .before in let i = t .before .before .before in let a = i .before .before in
     let s = a .before .before .before .before in
     let told = t .enum-told2 .given .1 in
-    ap three.Refused (c .number-refusal2 .ensures ∙ ap numberRefusal told)
+    ap three.Refused (c .refusal-of2 .ensures ∙ ap numberRefusal told)
     ∙ three-no-second _ _ _ (s .pre) _ _
     (sym (a .before .before .read .ensures) ∙ a .first .given .1) (i .if1 .left) _ (sym (t .before .before .read2 .ensures) ∙ told))
     (λ c. let b = c .before .before in let i = b .before .before .before in let a = i .before .before in
@@ -42,7 +42,7 @@ read-three-spec =
     (λ c. let t = c .before in let i = t .before .before .before in let b = i .before .before in
     let a = b .before .before .before .before .before in let s = a .before .before .before .before in
     let told = t .enum-told3 .given .1 in
-    ap three.Refused (c .number-refusal3 .ensures ∙ ap numberRefusal told)
+    ap three.Refused (c .refusal-of3 .ensures ∙ ap numberRefusal told)
     ∙ three-no-third _ _ _ (s .pre) _ _
     (sym (a .before .before .read .ensures) ∙ a .first .given .1) _ _
     (sym (b .before .before .read2 .ensures) ∙ b .second .given .1) (i .if2 .left) _ (sym (t .before .before .read3 .ensures) ∙ told))

@@ -3,9 +3,9 @@ use native.Mathlib.Omega.{arith}
 use mathlib.Core.Path.{sym, ap, _∙_}
 use borrow.Author.Needs.{needs}
 use borrow.Author.Tests.{eq-eqb}
-use Rattle.model.specs.Parse.{numberRefusal}
+use Rattle.number.specs.Number.{numberRefusal}
 use Rattle.replay.specs.Trail.{closedWalk}
-use Rattle.replay.proofs.Numbers.{value-within}
+use Rattle.number.proofs.Sequence.{value-within}
 use Rattle.replay.proofs.Walks.{part-fits, closed-refused, closed-closes, closed-open}
 use Rattle.replay.proofs.walk.closed_walk.Statement.{statement}
 use Rattle.replay.specs.declared.Reached.the-variants as reached
@@ -22,7 +22,7 @@ closed-walk-spec =
     (λ c κs. search needs)
     (λ c. let t = c .before in
     let told = t .enum-told .given .1 in
-    simp (sym (t .before .before .read .ensures) ∙ told) (ap reached.Refused (c .number-refusal .ensures ∙ ap numberRefusal told)))
+    simp (sym (t .before .before .read .ensures) ∙ told) (ap reached.Refused (c .refusal-of .ensures ∙ ap numberRefusal told)))
     (λ c. let g = c .before .before in
     simp (sym (g .before .before .read .ensures) ∙ g .got .given .1, eq-eqb _ 0 (c .if1 .taken)))
     (λ c κs. let g = c .before .before in

@@ -6,7 +6,8 @@ use mathlib.Core.Path.{_≡_, refl, sym, ap, _∙_}
 use lib.ListN.{length, take, length-set}
 use borrow.Author.Needs.{needs}
 use borrow.Author.Tests.{not-true, not-false}
-use Rattle.sheet.specs.Numbers.{stop, after, numbersFrom, flagged, numberRefusal}
+use Rattle.number.specs.Number.{numberRefusal}
+use Rattle.sheet.specs.Numbers.{stop, after, numbersFrom, flagged}
 use Rattle.sheet.proofs.Reading.{number-small, after-none, numbers-refused, numbers-broken, numbers-more, numbers-done}
 use Rattle.sheet.proofs.read.read_numbers.Statement.{statement}
 use Rattle.sheet.proofs.read.read_numbers.Tie as tie
@@ -40,7 +41,7 @@ read-numbers-spec =
     (λ c.
     let told = c .before .enum-told .given .1 in
     let l = c .before .before .before .before .before .loop in
-    ap stop (c .number-refusal .ensures ∙ ap numberRefusal told)
+    ap stop (c .refusal-of .ensures ∙ ap numberRefusal told)
     ∙ sym (numbers-refused _ _ _ _ _ _ _ _ (omega (arith, c .before .before .before .before .loop-test .taken, l .inv .1)) (sym (c .before .before .before .read .ensures) ∙ told))
     ∙ l .inv .3)
     (λ c. omega (arith, c .before .before .before .before .before .before .loop .inv .1, c .before .before .before .before .before .before .before .before .before .before .pre .2))

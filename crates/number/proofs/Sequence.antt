@@ -3,14 +3,15 @@ use Prim.Native.Nat.{ℕ, zero, suc, _+_, _-_, _^_, _≤_, _<_}
 use native.Mathlib.Omega.{arith}
 use mathlib.Core.Path.{_≡_, refl, sym, ap, subst, _∙_}
 use mathlib.Core.Logic.{_↔_, inl, inr, _⊎_}
-use mathlib.Core.List.{List, [], _∷_, _++_}
-use lib.ListN.{length, take, drop, length-drop}
-use lib.Seq.{drop-length, drop-drop, drop-append-seam, take-append-add, getD-drop}
+use mathlib.Core.List.{List, [], _∷_, _++_, List·Memᴰ, List·Memᴰ·head, List·Memᴰ·tail}
+use lib.ListN.{length, take, drop, length-drop, drop-of-length-le}
+use lib.Seq.{drop-drop, drop-append-seam, take-append-add, getD-drop}
 use Rattle.number.specs.declared.Number.{Number}
 use Rattle.number.specs.declared.Number.the-variants.{Value, Refused}
-use Rattle.number.specs.Number.{readNumber}
+use Rattle.number.specs.Number.{readNumber, spellAll}
 use Rattle.number.proofs.Laws.{Sound, sound, read-value, read-short, read-long}
-use Rattle.replay.specs.Spelling.{SpellsAll}
+use Rattle.number.specs.Sequence.{SpellsAll}
+use Rattle.number.proofs.Spelling.{spell-spells}
 
 -- the bytes from one offset to another spell these numbers
 pub data Reads (bs : List ℕ) : ℕ → List ℕ → ℕ → Type 0 where
@@ -58,24 +59,29 @@ module _ (bs : List ℕ) where
   rest-at : (at : ℕ) (g rest : List ℕ) → drop at bs ≡ g ++ rest → drop (at + length g) bs ≡ rest
   rest-at at g rest e = sym (drop-drop (length g) at bs) ∙ ap (drop (length g)) e ∙ drop-append-seam g rest
 
-  reads-spell : {at end : ℕ} {vs : List ℕ} → Reads bs at vs end → end ≡ length bs → SpellsAll (drop at bs) vs
-  reads-spell (none {at = at}) h = subst (λ l. SpellsAll l []) (sym (ap (λ i. drop i bs) h ∙ drop-length bs)) SpellsAll.none
+  pub reads-spell : {at end : ℕ} {vs : List ℕ} → Reads bs at vs end → length bs ≤ end → SpellsAll (drop at bs) vs
+  reads-spell (none {at = at}) h = rw (drop-of-length-le bs h) SpellsAll.none
   reads-spell (more {at = at} {to = to} {v = v} {vs = vs} r s) h =
       let (g, rest, e, k, q) = read-value bs at v to .0 r in
       let t = subst (λ l. SpellsAll l vs) (ap (λ i. drop i bs) q ∙ rest-at at g rest e) (reads-spell s h) in
       subst (λ l. SpellsAll l (v ∷ vs)) (sym e) (SpellsAll.more k t)
 
-  spell-reads : {l vs : List ℕ} → SpellsAll l vs → (at : ℕ) → at ≤ length bs → drop at bs ≡ l → Reads bs at vs (length bs)
-  spell-reads SpellsAll.none at h e =
-      let z : at ≡ length bs = omega (arith, length-drop at bs, ap length e) in
-      subst (λ i. Reads bs at [] i) z none
-  spell-reads (SpellsAll.more {g = g} {bs = rest} {v = v} k s) at h e =
+  pub spell-reads : {l vs : List ℕ} → SpellsAll l vs → (at : ℕ) → drop at bs ≡ l → (end : ℕ) × Reads bs at vs end × (length bs ≤ end)
+  spell-reads SpellsAll.none at e = (at, none, omega (arith, length-drop at bs, ap length e))
+  spell-reads (SpellsAll.more {g = g} {bs = rest} {v = v} k s) at e =
       let r = read-value bs at v (at + length g) .1 (g, rest, e, k, refl) in
-      more r (spell-reads s (at + length g) (value-within bs at v (at + length g) r .1) (rest-at at g rest e))
+      let (end, t, h) = spell-reads s (at + length g) (rest-at at g rest e) in
+      (end, more r t, h)
 
   -- with nothing after
   pub reads-law : (at : ℕ) (vs : List ℕ) → at ≤ length bs → Reads bs at vs (length bs) ↔ SpellsAll (drop at bs) vs
-  reads-law at vs h = (λ r. reads-spell r refl, λ s. spell-reads s at h refl)
+  reads-law at vs h = (
+    λ r. reads-spell r (omega arith),
+    λ s.
+        let (end, t, k) = spell-reads s at refl in
+        let z : end ≡ length bs = omega (arith, reads-within t h) in
+        subst (Reads bs at vs) z t,
+  )
 
 -- ---- numbers in a part of the bytes
 
@@ -128,3 +134,11 @@ module _ (bs : List ℕ) (n i : ℕ) where
       ∙ ap (λ (k : ℕ). take k (g ++ rest)) (let z : n - i ≡ length g + (n - to) = omega arith in z)
       ∙ take-append-add g rest (n - to) in
       read-value (take n bs) i v to .1 (g, take (n - to) rest, split, s, q)
+
+-- ---- "What we write uses shortest numbers"
+
+-- shortest forms spell their numbers
+pub spelled : (vs : List ℕ) → ((v : ℕ) → List·Memᴰ v vs → v < 2 ^ 21) → SpellsAll (spellAll vs) vs
+unfolding spellAll
+spelled [] h = SpellsAll.none
+spelled (v ∷ vs) h = SpellsAll.more (spell-spells v (h v (List·Memᴰ·head refl))) (spelled vs (λ w k. h w (List·Memᴰ·tail k)))

@@ -1,0 +1,1 @@
+-- Why the check is right.

@@ -1,0 +1,2 @@
+-- What passes as evidence, and what its check answers.
+pub mod Evidence
