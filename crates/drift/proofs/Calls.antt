@@ -18,6 +18,10 @@ use Rattle.drift.specs.Judge.{verdict, judged, told}
 use Rattle.drift.specs.Marks.{short, marksRefusal, marked, marksOf, marksIn, output}
 use Rattle.drift.specs.declared.Judgement.the-variants.{Refused}
 use Rattle.drift.specs.Marks as Marks
+use Rattle.drift.specs.Check as Check
+use Rattle.drift.specs.Check.{checkAnswer}
+use Rattle.evidence.specs.Evidence.{checked}
+use Rattle.evidence.specs.declared.Evidence.the-variants as evidence
 use Rattle.drift.specs.declared.Marking.the-variants as Marking
 
 pub enough-each : (s a b c d : ℕ) → enough s (a ∷ b ∷ c ∷ d ∷ []) ≡ true → (s ≤ a) × (s ≤ b) × (s ≤ c) × (s ≤ d)
@@ -91,6 +95,10 @@ module _ (bytes lent : List ℕ) where
     unfolding Marks.told marked marksRefusal answer
     marks-refused k = simp (is, ne-eqb r 0 ne) refl
 
+    pub check-refused : (shown : List ℕ) → Check.told (evidence.Refused r) ≡ checkAnswer bytes shown lent
+    unfolding Check.told checkAnswer answer
+    check-refused shown = simp (is, ne-eqb r 0 ne) refl
+
     pub output-alone : (xs : List ℕ) → xs ≡ output bytes lent xs
     unfolding output
     output-alone xs = simp (is, ne-eqb r 0 ne) refl
@@ -108,6 +116,10 @@ module _ (bytes lent : List ℕ) where
     pub marks-done : (k : ℕ) → marked bytes lent k ≡ answer (short k (modelOf bytes)) (statesOf bytes ∷ [])
     unfolding marked marksRefusal
     marks-done k = simp is refl
+
+    pub check-done : (shown : List ℕ) → checkAnswer bytes shown lent ≡ Check.told (checked (modelOf bytes) shown)
+    unfolding checkAnswer
+    check-done shown = simp is refl
 
     pub output-done : (xs : List ℕ) → output bytes lent xs ≡ marksIn (modelOf bytes) xs
     unfolding output

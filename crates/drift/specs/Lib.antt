@@ -8,3 +8,5 @@ pub mod Call
 pub mod Judge
 -- The marks.
 pub mod Marks
+-- The evidence check.
+pub mod Check

@@ -8,11 +8,14 @@ ghost use Rattle.model.specs.Model.{Lawful};
 ghost use Rattle.graph.specs.Plan.{systemOfModel};
 ghost use Rattle.graph.specs.States.{states};
 ghost use Rattle.marking.specs.Tables.{Distances};
+ghost use Rattle.evidence.specs.Evidence.{checked};
 ghost use Rattle.drift.specs.Answer.{answer};
 ghost use Rattle.drift.specs.Call.{lengths, enough, left};
 ghost use Rattle.drift.specs.Judge.{verdict, judged, told};
 ghost use Rattle.drift.specs.Marks.{short, marksIn, marked, marksOf, output, told as toldMarks};
+ghost use Rattle.drift.specs.Check.{checkAnswer, told as toldCheck};
 use model::Model;
+pub use evidence::Evidence;
 
 // The verdict on a plan, with the number of states, and the marked states or the steps of our trail.
 pub enum Judgement {
@@ -206,4 +209,60 @@ pub fn marks(
         return mark_into(m, &mut a[..s], &mut b[..s], &mut c[..s], &mut d[..s], out);
     }
     Marking::Refused(8)
+}
+
+// ---- The evidence check.
+
+// With slices of just S numbers, which are zero afterwards.
+fn check_model(
+    m: Model,
+    shown: &[u8],
+    a: &mut [u16],
+    b: &mut [u16],
+    c: &mut [u16],
+    d: &mut [u16],
+) -> Evidence
+    requires { ⌜ Lawful m ⌝ }
+    requires { ⌜ (length (now a) ≡ states m) × (length (now b) ≡ states m) × (length (now c) ≡ states m) × (length (now d) ≡ states m) ⌝ }
+    ensures { λ r. ⌜ r ≡ checked m (now (shown .entry)) ⌝ }
+    ensures { λ _. ⌜
+        (now (a .exit) ≡ replicate (states m) 0) × (now (b .exit) ≡ replicate (states m) 0)
+        × (now (c .exit) ≡ replicate (states m) 0) × (now (d .exit) ≡ replicate (states m) 0)
+        ⌝ }
+{
+    let found = evidence::check(m, shown, a);
+    clear_all(a, b, c, d);
+    found
+}
+
+// 01: whether `shown` is evidence that passes for the plan that the bytes spell, and of which kind; or a refusal, 1 to 8 for the plan, 1, 2, 6 and
+// 10 to 14 for the evidence.
+pub fn check_evidence(
+    bytes: &[u8],
+    shown: &[u8],
+    a: &mut [u16],
+    b: &mut [u16],
+    c: &mut [u16],
+    d: &mut [u16],
+) -> Evidence
+    ensures { λ r. ⌜ toldCheck r ≡ checkAnswer (now (bytes .entry)) (now (shown .entry))
+        (lengths (now (a .entry)) (now (b .entry)) (now (c .entry)) (now (d .entry))) ⌝ }
+    ensures { λ _. ⌜
+        (now (a .exit) ≡ left (now (bytes .entry)) (lengths (now (a .entry)) (now (b .entry)) (now (c .entry)) (now (d .entry))) (now (a .entry)))
+        × (now (b .exit) ≡ left (now (bytes .entry)) (lengths (now (a .entry)) (now (b .entry)) (now (c .entry)) (now (d .entry))) (now (b .entry)))
+        × (now (c .exit) ≡ left (now (bytes .entry)) (lengths (now (a .entry)) (now (b .entry)) (now (c .entry)) (now (d .entry))) (now (c .entry)))
+        × (now (d .exit) ≡ left (now (bytes .entry)) (lengths (now (a .entry)) (now (b .entry)) (now (c .entry)) (now (d .entry))) (now (d .entry)))
+        ⌝ }
+{
+    let read = model::read_model(bytes);
+    let refusal = read.refusal;
+    if refusal != 0 {
+        return Evidence::Refused(refusal);
+    }
+    let m = read.model;
+    let s = graph::state_count(m);
+    if is_enough(s, a.len(), b.len(), c.len(), d.len()) {
+        return check_model(m, shown, &mut a[..s], &mut b[..s], &mut c[..s], &mut d[..s]);
+    }
+    Evidence::Refused(8)
 }

@@ -1,1 +1,6 @@
 -- Why the check is right.
+
+-- Evidence by its first number.
+pub mod Ways
+-- What the answers mean.
+pub mod Answers

@@ -1,60 +1,49 @@
+-- `evidence::check` meets its contract.
 use borrow.Author.Needs.{needs}
+use Rattle.region.proofs.Known.{front-selected, front-length}
+use Rattle.evidence.proofs.Ways.{read-refused, read-checked}
 use Rattle.evidence.proofs.check.Statement.{statement}
 use Rattle.evidence.proofs.check.Tie as tie
-use Rattle.evidence.proofs.check.Reads as reads
-use Rattle.evidence.proofs.check.Lts as lts
-use Rattle.evidence.proofs.check_kind.Reads as check-kind-reads
-use Rattle.number.proofs.read.Reads as read-reads
-use Rattle.number.proofs.refusal_of.Reads as refusal-of-reads
-use Rattle.region.proofs.select.Reads as select-reads
 
--- src/lib.rt:127:9
 read-requires : tie.Need-read-requires
 read-requires c κs = search needs
 
--- src/lib.rt:128:23
 enum-known-got : tie.Need-enum-known-got
 enum-known-got c = search needs
 
--- src/lib.rt:129:34
 enum-told : tie.Need-enum-told
 enum-told c = search needs
 
--- src/lib.rt:129:34
 refusal-of-requires : tie.Need-refusal-of-requires
 refusal-of-requires c κs = search needs
 
--- src/lib.rt:129:9
 returns : tie.Need-returns
-returns c = ?
+returns c = read-refused _ _ (c .before .before .before .read .ensures) (c .before .enum-told .given .1) (c .refusal-of .ensures)
 
--- src/lib.rt:132:49
 slice-aggregate-select : tie.Need-slice-aggregate-select
 slice-aggregate-select c = search needs
 
--- src/lib.rt:132:9
 select-requires : tie.Need-select-requires
 select-requires c κs = search needs
 
--- src/lib.rt:133:19
 array-share-prefix-table : tie.Need-array-share-prefix-table
 array-share-prefix-table c = search needs
 
--- src/lib.rt:133:19
 slice-aggregate-check-kind : tie.Need-slice-aggregate-check-kind
-slice-aggregate-check-kind c = ?
+slice-aggregate-check-kind c =
+    let s = c .before .before .select in front-length _ _ _ _ _ (s .ensures .0) (s .ensures .1 .0)
 
--- src/lib.rt:133:5
 check-kind-requires : tie.Need-check-kind-requires
-check-kind-requires c κs = ?
+check-kind-requires c κs =
+    let start = c .before .before .before .before .before .before .before .before .before .before .before in
+    let s = c .before .before .before .select in
+    (start .pre .0, front-selected _ _ _ _ _ (s .ensures .0) (s .ensures .1 .0), start .pre .1)
 
--- src/lib.rt:123:1
 same-length : tie.Need-same-length
 same-length c = search needs
 
--- src/lib.rt:123:1
 returns-2 : tie.Need-returns-2
-returns-2 c = ?
+returns-2 c = read-checked _ _ (c .before .before .before .before .before .before .before .before .before .before .before .read .ensures) (c .before .before .before .before .before .before .before .before .before .got .given .1) (c .before .before .check-kind .ensures)
 
 pub check-spec : {M : Type 1} → statement M
 check-spec =

@@ -1,56 +1,49 @@
+-- `evidence::fill_and_check` meets its contract.
 use borrow.Author.Needs.{needs}
 use Rattle.evidence.proofs.fill_and_check.Statement.{statement}
 use Rattle.evidence.proofs.fill_and_check.Tie as tie
-use Rattle.evidence.proofs.fill_and_check.Reads as reads
-use Rattle.evidence.proofs.fill_and_check.Lts as lts
-use Rattle.sheet.proofs.check_sheet.Reads as check-sheet-reads
-use Rattle.survey.proofs.fill_tables.Reads as fill-tables-reads
 
--- src/lib.rt:52:5
 fill-tables-requires : tie.Need-fill-tables-requires
 fill-tables-requires c κs = search needs
 
--- src/lib.rt:53:5
 check-sheet-requires : tie.Need-check-sheet-requires
-check-sheet-requires c κs = ?
+check-sheet-requires c κs =
+    let start = c .before .before .before .before .before .before .before .before .before .before .before .before .before .before .before .before .before .before .before .before .before .before .before .before .before .before .before .before .before .before .before .before .before .before .before .before .before .before .before .before .before .before .before in
+    let tables = c .before .before .before .before .before .before .before .before .before .before .before .before .before .before .before .before .before .before .before .before .before .before .before .fill-tables .ensures in (
+      record {
+        flags = tables .0;
+        filled = record { lawful = start .pre .0 .0; flow = tables .1; face = tables .2 .face; corners = tables .2 .slots };
+      },
+      start .pre .0 .2,
+    )
 
--- src/lib.rt:30:1
 same-length : tie.Need-same-length
 same-length c = search needs
 
--- src/lib.rt:30:1
 same-length-2 : tie.Need-same-length-2
 same-length-2 c = search needs
 
--- src/lib.rt:30:1
 same-length-3 : tie.Need-same-length-3
 same-length-3 c = search needs
 
--- src/lib.rt:30:1
 same-length-4 : tie.Need-same-length-4
 same-length-4 c = search needs
 
--- src/lib.rt:30:1
 same-length-5 : tie.Need-same-length-5
 same-length-5 c = search needs
 
--- src/lib.rt:30:1
 same-length-6 : tie.Need-same-length-6
 same-length-6 c = search needs
 
--- src/lib.rt:30:1
 same-length-7 : tie.Need-same-length-7
 same-length-7 c = search needs
 
--- src/lib.rt:30:1
 same-length-8 : tie.Need-same-length-8
 same-length-8 c = search needs
 
--- src/lib.rt:30:1
 same-length-9 : tie.Need-same-length-9
 same-length-9 c = search needs
 
--- src/lib.rt:30:1
 returns : tie.Need-returns
 returns c = search needs
 

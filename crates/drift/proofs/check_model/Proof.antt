@@ -1,0 +1,50 @@
+-- `drift::check_model` meets its contract.
+use borrow.Author.Needs.{needs}
+use mathlib.Core.Path.{_∙_}
+use Rattle.drift.proofs.Frames.{zeros-of}
+use Rattle.drift.proofs.check_model.Statement.{statement}
+use Rattle.drift.proofs.check_model.Tie as tie
+
+check-requires : tie.Need-check-requires
+check-requires c κs = search needs
+
+clear-all-requires : tie.Need-clear-all-requires
+clear-all-requires c κs = search needs
+
+same-length : tie.Need-same-length
+same-length c = search needs
+
+same-length-2 : tie.Need-same-length-2
+same-length-2 c = search needs
+
+same-length-3 : tie.Need-same-length-3
+same-length-3 c = search needs
+
+same-length-4 : tie.Need-same-length-4
+same-length-4 c = search needs
+
+returns : tie.Need-returns
+returns c =
+    let start = c .before .before .before .before .before .before .before .before .before .before .before .before .before .before .before .before .before .before .before .before .before .before in
+    let check = c .before .before .before .before .before .before .before .before .before .before .before .before .before .before .before .check in
+    let zero = c .before .before .before .before .before .before .before .before .clear-all .ensures in (
+      check .ensures,
+      (
+        zeros-of (zero .0) (check .kept .1 .1 .0 ∙ start .pre .1 .0),
+        zeros-of (zero .1) (start .pre .1 .1),
+        zeros-of (zero .2) (start .pre .1 .2),
+        zeros-of (zero .3) (start .pre .1 .3),
+      ),
+    )
+
+pub check-model-spec : {M : Type 1} → statement M
+check-model-spec =
+    tie.close
+    (tie.spec
+    check-requires
+    clear-all-requires
+    same-length
+    same-length-2
+    same-length-3
+    same-length-4
+    returns)
