@@ -26,7 +26,7 @@ use Rattle.drift.specs.Call.{modelOf, statesOf, enough, refusal}
 use Rattle.drift.specs.Judge.{countOf, verdict, judged}
 use Rattle.drift.specs.Marks.{marksRefusal, marked}
 use Rattle.drift.proofs.Verdict.{steps-verdict, size-states}
-use Rattle.drift_c.specs.Words.{value, judgeWord, marksWord, Fields}
+use Rattle.drift_c.specs.Words.{value, judgeWord, marksWord, checkWord, Fields}
 
 -- where a call is not refused the model is lawful
 accepted : (bytes lent : List ℕ) → refusal bytes lent ≡ 0 → Lawful (modelOf bytes)
@@ -98,3 +98,11 @@ marks-word-is s = omega arith
 pub marks-refused-is : (r : ℕ) → r ≡ marksWord (record { number = r; values = [] })
 unfolding marksWord
 marks-refused-is r = omega arith
+
+pub kind-word-is : (w k : ℕ) → w ≡ k * 256 → w ≡ checkWord (record { number = 0; values = k ∷ [] })
+unfolding checkWord
+kind-word-is w k e = omega (arith, e)
+
+pub check-refused-is : (r : ℕ) → r ≡ checkWord (record { number = r; values = [] })
+unfolding checkWord
+check-refused-is r = omega arith

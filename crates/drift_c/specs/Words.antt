@@ -16,6 +16,10 @@ judgeWord a = a .number + 2 ^ 8 * value a 0 + 2 ^ 16 * value a 1 + 2 ^ 40 * valu
 unfoldable pub marksWord : Answer → ℕ
 marksWord a = a .number + 2 ^ 16 * value a 0
 
+-- number + 2^8 · kind (1 sheet, 2 trail)
+unfoldable pub checkWord : Answer → ℕ
+checkWord a = a .number + 2 ^ 8 * value a 0
+
 -- the values fit their fields
 pub record Fields (a : Answer) : Type 0 where
   pub fit : (i : ℕ) → value a i ≤ 65535

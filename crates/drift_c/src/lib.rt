@@ -6,7 +6,9 @@ ghost use lib.ListN.{length};
 ghost use Rattle.drift.specs.Call.{lengths, left};
 ghost use Rattle.drift.specs.Judge.{judged, told};
 ghost use Rattle.drift.specs.Marks.{marked, output, told as toldMarks};
-ghost use Rattle.drift_c.specs.Words.{judgeWord, marksWord, Fields};
+ghost use Rattle.drift.specs.Check.{checkAnswer, told as toldCheck};
+ghost use Rattle.drift_c.specs.Words.{judgeWord, marksWord, checkWord, Fields};
+use drift::Evidence;
 use drift::Judgement;
 use drift::Marking;
 
@@ -36,6 +38,16 @@ fn marks_word(answer: Marking) -> u64
     match answer {
         Marking::Marked(states) => states as u64 * 65536,
         Marking::Refused(number) => number as u64,
+    }
+}
+
+fn check_word(answer: Evidence) -> u64
+    ensures { λ r. ⌜ r ≡ checkWord (toldCheck answer) ⌝ }
+{
+    match answer {
+        Evidence::Sheet => 256,
+        Evidence::Trail => 512,
+        Evidence::Refused(number) => number as u64,
     }
 }
 
@@ -89,4 +101,29 @@ pub extern "C" fn drift_marks(
 {
     let answer = drift::marks(model, s1, s2, s3, s4, out);
     marks_word(answer)
+}
+
+// number + 2^8 · kind (1 sheet, 2 trail)
+#[no_mangle]
+pub extern "C" fn drift_check_evidence(
+    model: &[u8],
+    evidence: &[u8],
+    s1: &mut [u16],
+    s2: &mut [u16],
+    s3: &mut [u16],
+    s4: &mut [u16],
+) -> u64
+    ensures { λ r. ⌜
+        r ≡ checkWord (checkAnswer (now (model .entry)) (now (evidence .entry))
+        (lengths (now (s1 .entry)) (now (s2 .entry)) (now (s3 .entry)) (now (s4 .entry))))
+        ⌝ }
+    ensures { λ _. ⌜
+        (now (s1 .exit) ≡ left (now (model .entry)) (lengths (now (s1 .entry)) (now (s2 .entry)) (now (s3 .entry)) (now (s4 .entry))) (now (s1 .entry)))
+        × (now (s2 .exit) ≡ left (now (model .entry)) (lengths (now (s1 .entry)) (now (s2 .entry)) (now (s3 .entry)) (now (s4 .entry))) (now (s2 .entry)))
+        × (now (s3 .exit) ≡ left (now (model .entry)) (lengths (now (s1 .entry)) (now (s2 .entry)) (now (s3 .entry)) (now (s4 .entry))) (now (s3 .entry)))
+        × (now (s4 .exit) ≡ left (now (model .entry)) (lengths (now (s1 .entry)) (now (s2 .entry)) (now (s3 .entry)) (now (s4 .entry))) (now (s4 .entry)))
+        ⌝ }
+{
+    let answer = drift::check_evidence(model, evidence, s1, s2, s3, s4);
+    check_word(answer)
 }
