@@ -4,3 +4,5 @@
 pub mod Ways
 -- What the answers mean.
 pub mod Answers
+-- Our evidence passes.
+pub mod Ours

@@ -1,0 +1,158 @@
+-- Our evidence passes: its numbers fit three groups, and what they spell keeps the rules or replays.
+use mathlib.Core.Path.{_≡_, refl, sym, ap, subst, _∙_}
+use mathlib.Core.Bool.{Bool, true, false}
+use mathlib.Core.Logic.{_⊎_, inl, inr, ⊎-elim}
+use mathlib.Core.List.{List, [], _∷_, _++_, map, List·Memᴰ, List·Memᴰ·not-nil, List·Memᴰ·cases-cons, List·Memᴰ·append-cases}
+use Prim.Native.Nat.{ℕ, zero, suc, _+_, _-_, _*_, _%_, _^_, _≤_, _<_}
+use native.Mathlib.Nat.{mod-lt}
+use native.Mathlib.Omega.{arith}
+use lib.ListN.{length}
+use lib.Dec.{eqb, ltb}
+use Rattle.theory.specs.Below.{least, tab}
+use Rattle.theory.specs.Lists.{from}
+use Rattle.theory.specs.Walk.{exact, dist⁺}
+use Rattle.theory.specs.Region.{Region}
+use Rattle.theory.specs.Enumeration.{key}
+use Rattle.theory.specs.StateGraph.{regionCount, regionOf, systemOf, labelledOf}
+use Rattle.theory.specs.System.{System}
+use Rattle.theory.specs.Marked.{unsafe}
+use Rattle.theory.specs.Sheet.{ourSheet, number}
+use Rattle.theory.specs.Trail.{trailStates}
+use Rattle.theory.specs.ClosedWalk.{closedWalk, closedWalkSteps}
+use Rattle.theory.specs.Labels.{LabelledSystem, leads, leastLabel, labelsAlong, closedWalkLabels}
+use Rattle.theory.specs.Replay.{Move, touch-to, ourMove, movesAlong, ourMoves}
+use Rattle.theory.proofs.Below.{cond-ind, least-le}
+use Rattle.theory.proofs.Enumeration.{lawful-whole, lawful-rank, region-at}
+use Rattle.theory.proofs.Marked.{unsafe-is, safe-is}
+use Rattle.theory.proofs.Sheet.{number-le, our-sheet-passes}
+use Rattle.theory.proofs.Trail.{unsafe-trail, trail-steps-below}
+use Rattle.theory.proofs.StateGraph.{count-positive}
+use Rattle.theory.proofs.Labels.{closed-labels-length}
+use Rattle.theory.proofs.Replay.{our-moves-length, our-moves-pass}
+use Rattle.number.specs.Number.{spellAll}
+use Rattle.number.proofs.Sequence.{spelled}
+use Rattle.model.specs.declared.Model.{Model}
+use Rattle.model.specs.Model.{Lawful}
+use Rattle.graph.specs.Plan.{edgeOf, automatonOf, systemOfModel, labelledOfModel}
+use Rattle.graph.proofs.Models.{system-laws, labelled-laws}
+use Rattle.graph.proofs.States.{clocks-of, ceiling-of}
+use Rattle.successors.proofs.Leaving.{from-length}
+use Rattle.successors.proofs.Room.{states-limit}
+use Rattle.replay.specs.Spelling.{labelNumbers, walkNumbers, moveNumbers, movesNumbers, trailNumbers}
+use Rattle.evidence.specs.Evidence.{SheetPasses, TrailPasses}
+use Rattle.evidence.specs.Ours.{ourSheetNumbers, ourTrailNumbers, ourEvidence}
+
+-- ---- numbers that fit
+
+abbrev Fit : List ℕ → Type 0
+Fit vs = (v : ℕ) → List·Memᴰ v vs → v < 2 ^ 21
+
+fit-none : Fit []
+fit-none v h = absurd (List·Memᴰ·not-nil h)
+
+fit-more : {x : ℕ} {vs : List ℕ} → x < 2 ^ 21 → Fit vs → Fit (x ∷ vs)
+fit-more {x} {vs} b f v h = by (List·Memᴰ·cases-cons h)
+  where
+    by : (v ≡ x) ⊎ List·Memᴰ v vs → v < 2 ^ 21
+    by (inl e) = omega arith
+    by (inr k) = f v k
+
+fit-append : (vs : List ℕ) {ws : List ℕ} → Fit vs → Fit ws → Fit (vs ++ ws)
+fit-append vs f g v h = ⊎-elim (f v) (g v) (List·Memᴰ·append-cases vs h)
+
+fit-tab : (n : ℕ) (f : ℕ → ℕ) → ((i : ℕ) → i < n → f i < 2 ^ 21) → Fit (tab n f)
+unfolding tab
+fit-tab zero f h = fit-none
+fit-tab (suc n) f h = fit-more (h zero (omega arith)) (fit-tab n (λ i. f (suc i)) (λ i k. h (suc i) (omega arith)))
+
+map-length : {A B : Type 0} (f : A → B) (l : List A) → length (map f l) ≡ length l
+map-length f [] = refl
+map-length f (x ∷ l) = ap suc (map-length f l)
+
+fit-label : (x : ℕ) → x < 2 ^ 21 → Fit (labelNumbers x)
+fit-label zero h = fit-more (omega arith) fit-none
+fit-label (suc e) h = fit-more (omega arith) (fit-more (omega arith) fit-none)
+
+module _ (m : Model) (ok : Lawful m) where
+  abbrev Y : System
+  Y = systemOfModel m
+
+  abbrev P : LabelledSystem
+  P = labelledOfModel m
+
+  size-few : Y .size ≤ 15816
+  unfolding systemOf
+  size-few = omega (arith, states-limit ok)
+
+  -- "w1..wn, r1..rn" of the region of any state
+  fit-region : (q : ℕ) → Fit (key (regionOf (automatonOf m) q))
+  unfolding regionOf regionCount automatonOf systemOf
+  fit-region q =
+      let start = system-laws m ok .allowed-below (Y .start) (system-laws m ok .start-allowed) in
+      let some = count-positive (automatonOf m) (m .locations) (Y .start) start in
+      let h = region-at (m .clocks) (m .ceiling) (q % regionCount (automatonOf m)) (mod-lt q some) in
+      fit-append _
+      (λ w k. omega (arith, lawful-whole (m .clocks) (m .ceiling) _ h w k, ok .ceiling .1))
+      (λ r k. omega (arith, lawful-rank (m .clocks) (m .ceiling) _ h r k, ok .clocks .1))
+
+  labels-few : P .labels ≤ 25
+  unfolding labelledOf automatonOf
+  labels-few = omega (arith, map-length (edgeOf m) (from 0 (m .edges)), from-length 0 (m .edges), ok .edges)
+
+  fit-least : (p q : ℕ) → leastLabel P p q < 2 ^ 21
+  unfolding leastLabel
+  fit-least p q = omega (arith, least-le (P .labels) (λ x. leads P x p q), labels-few)
+
+  fit-along : (l : List ℕ) (p : ℕ) → Fit (walkNumbers (labelsAlong P p l))
+  unfolding labelsAlong walkNumbers
+  fit-along [] p = fit-none
+  fit-along (q ∷ l) p = fit-append (labelNumbers (leastLabel P p q)) (fit-label (leastLabel P p q) (fit-least p q)) (fit-along l q)
+
+  closed-walk-few : (q : ℕ) → closedWalkSteps Y q ≤ suc (Y .size)
+  unfolding closedWalkSteps dist⁺
+  closed-walk-few q = omega (arith, least-le (Y .size) (λ k. exact (Y .size) (Y .flow) (λ x. eqb x q) (suc k) q))
+
+  fit-touch : (q : ℕ) → Fit (moveNumbers (automatonOf m) (touch-to q (closedWalkLabels P q)))
+  unfolding moveNumbers closedWalkLabels labelledOf
+  fit-touch q =
+      fit-more (omega arith)
+      (fit-append (key (regionOf (automatonOf m) q)) (fit-region q)
+      (fit-more (omega (arith, closed-labels-length P (labelled-laws m ok) q, closed-walk-few q, size-few))
+      (fit-along (closedWalk (P .system) q) q)))
+
+  fit-move : (p q : ℕ) → Fit (moveNumbers (automatonOf m) (ourMove P p q))
+  unfolding ourMove moveNumbers
+  fit-move p q =
+      cond-ind (λ (v : Move). Fit (moveNumbers (automatonOf m) v)) (ltb (leastLabel P p q) (P .labels))
+      (λ _. fit-label (leastLabel P p q) (fit-least p q))
+      (λ _. cond-ind (λ (v : Move). Fit (moveNumbers (automatonOf m) v)) (P .system .face p q)
+      (λ _. fit-more (omega arith) (fit-region q)) (λ _. fit-touch q))
+
+  fit-moves : (l : List ℕ) (p : ℕ) → Fit (movesNumbers (automatonOf m) (movesAlong P p l))
+  unfolding movesAlong movesNumbers
+  fit-moves [] p = fit-none
+  fit-moves (q ∷ l) p = fit-append (moveNumbers (automatonOf m) (ourMove P p q)) (fit-move p q) (fit-moves l q)
+
+  -- ---- a trail where a marked state is forbidden, a sheet where none is
+
+  pub our-trail : unsafe Y ≡ true → TrailPasses m (ourEvidence m)
+  unfolding ourEvidence ourTrailNumbers trailNumbers ourMoves labelledOf
+  our-trail u =
+      let (l, t) = unsafe-trail Y (system-laws m ok) (unsafe-is Y (system-laws m ok) u) in
+      let many = our-moves-length P (labelled-laws m ok) l t in
+      let few = trail-steps-below Y (system-laws m ok) l t in (
+        ourMoves P,
+        rw u (spelled (ourTrailNumbers m)
+            (fit-more (omega arith) (fit-more (omega (arith, many, few, size-few)) (fit-moves (trailStates Y) (Y .start))))),
+        our-moves-pass P (labelled-laws m ok) l t,
+      )
+
+  pub our-sheet : unsafe Y ≡ false → SheetPasses m (ourEvidence m)
+  unfolding ourEvidence ourSheetNumbers ourSheet
+  our-sheet u = (
+    ourSheet Y,
+    rw u (spelled (ourSheetNumbers m)
+        (fit-more (omega arith) (fit-tab (Y .size) (number Y)
+        (λ i h. omega (arith, number-le Y (system-laws m ok) i h, size-few))))),
+    our-sheet-passes Y (system-laws m ok) (safe-is Y (system-laws m ok) u),
+  )
