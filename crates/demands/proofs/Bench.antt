@@ -1,0 +1,36 @@
+-- All cases that 01 marks P hold of the definitions: computed, in one test.
+use mathlib.Core.Path.{_≡_, refl}
+use mathlib.Core.Bool.{true}
+use Rattle.theory.specs.Below.{tab, any, all, least, top}
+use Rattle.theory.specs.Lists.{every, same}
+use Rattle.theory.specs.Region.{regions, lawful, fits, attains, corners, hasCorner, face, shares}
+use Rattle.theory.specs.RegionGraph.{allowed, guardHolds}
+use Rattle.theory.specs.StateGraph.{regionCount, locationOf, regionOf, sameRegion, indexIn, numberOf, allowedState, stateAt, timeFrom, jumpFrom, stepFrom, beside, flowTest, systemOf, labelledOf}
+use Rattle.theory.specs.Walk.{exact, within, dist, greedy}
+use Rattle.theory.specs.System.{reach, onClosedWalk}
+use Rattle.theory.specs.Marked.{step, marks, unsafe}
+use Rattle.theory.specs.Height.{under, chain, height}
+use Rattle.theory.specs.Sheet.{keeps, number, ourSheet}
+use Rattle.theory.specs.Trail.{trailSteps, trailStates}
+use Rattle.theory.specs.Labels.{opens}
+use Rattle.theory.specs.Replay.{movesAlong, ourMoves}
+use Rattle.number.specs.Number.{readNumber, spell, spellAll}
+use Rattle.model.specs.Each.{each}
+use Rattle.model.specs.Parse.{fieldAt, kindAt, invariantAt, endsAt, guardAt, parseBody, parseCounts, parseModel}
+use Rattle.model.specs.Cycle.{markEdge, roundOf, survivors, hasCycle, unreset}
+use Rattle.model.specs.Accept.{readModel}
+use Rattle.graph.specs.Plan.{automatonOf}
+use Rattle.sheet.specs.Numbers.{numberKeeps, numbersFrom}
+use Rattle.sheet.specs.Answer.{sheetRefusal}
+use Rattle.replay.specs.Spelling.{movesNumbers, trailNumbers}
+use Rattle.replay.specs.Trail.{run, flowTo, labelAt, walkStep, closedWalk, numbersAt, faceTo, touchTo, trailStep, trailAnswer}
+use Rattle.evidence.specs.Evidence.{ofKind, checked}
+use Rattle.evidence.specs.Ours.{ourSheetNumbers, ourTrailNumbers, ourEvidence}
+use Rattle.drift.specs.Answer.{answer}
+use Rattle.drift.specs.Call.{enough, refusal}
+use Rattle.drift.specs.Check.{told, checkAnswer}
+use Rattle.demands.specs.Bench.{samePoints, holds, bench}
+
+pub bench-holds : every holds bench ≡ true
+unfolding holds bench samePoints same regions lawful fits attains corners hasCorner face shares allowed guardHolds regionCount locationOf regionOf sameRegion indexIn numberOf allowedState stateAt timeFrom jumpFrom stepFrom beside flowTest systemOf labelledOf tab any all least top exact within dist greedy reach onClosedWalk step marks unsafe under chain height keeps number ourSheet trailSteps trailStates opens movesAlong ourMoves readNumber spell spellAll each fieldAt kindAt invariantAt endsAt guardAt parseBody parseCounts parseModel markEdge roundOf survivors hasCycle unreset readModel automatonOf numberKeeps numbersFrom sheetRefusal movesNumbers trailNumbers run flowTo labelAt walkStep closedWalk numbersAt faceTo touchTo trailStep trailAnswer ofKind checked ourSheetNumbers ourTrailNumbers ourEvidence answer enough refusal told checkAnswer
+bench-holds = refl

@@ -1,0 +1,4 @@
+-- 01's cases marked P hold.
+pub mod Bench
+-- The bound on drift is tight.
+pub mod Tight

@@ -1,0 +1,89 @@
+-- The plans on 01's bench: all cases marked P as one list, each with the test that it stands for, by the definitions that the contracts cite.
+use Prim.Native.Nat.{ℕ}
+use mathlib.Core.Bool.{Bool, true, false, _&&_}
+use mathlib.Core.List.{List, [], _∷_}
+use lib.ListN.{length, take}
+use lib.Dec.{eqb}
+use Rattle.theory.specs.Lists.{every, same}
+use Rattle.theory.specs.Region.{Region, clock, regions, lawful, corners, successor}
+use Rattle.theory.specs.StateGraph.{sameRegion}
+use Rattle.evidence.specs.Ours.{ourEvidence}
+use Rattle.drift.specs.Call.{modelOf}
+use Rattle.drift.specs.Check.{checkAnswer}
+
+pub data Case : Type 0 where
+  -- so many clocks, a ceiling: so many regions
+  count-is : ℕ → ℕ → ℕ → Case
+  -- a region: its corners
+  corners-are : Region → List (List ℕ) → Case
+  -- so many clocks, a ceiling, a region: its time successor, lawful
+  time-gives : ℕ → ℕ → Region → Region → Case
+  -- a model, evidence: the number and the values that the check returns
+  check-gives : List ℕ → List ℕ → ℕ → List ℕ → Case
+  -- a model: our evidence
+  ours-is : List ℕ → List ℕ → Case
+
+-- points in the same order
+unfoldable pub samePoints : List (List ℕ) → List (List ℕ) → Bool
+samePoints [] [] = true
+samePoints [] (q ∷ qs) = false
+samePoints (p ∷ ps) [] = false
+samePoints (p ∷ ps) (q ∷ qs) = same p q && samePoints ps qs
+
+-- "lends buffers of 4,000 numbers"
+abbrev pub buffers : List ℕ
+buffers = 4000 ∷ 4000 ∷ 4000 ∷ 4000 ∷ []
+
+unfoldable pub holds : Case → Bool
+holds (count-is n M k) = eqb (length (regions n M)) k
+holds (corners-are xs ps) = samePoints (corners xs) ps
+holds (time-gives n M xs ys) = sameRegion (successor xs) ys && lawful n M ys
+holds (check-gives model shown r vs) =
+    eqb (checkAnswer model shown buffers .number) r && same (checkAnswer model shown buffers .values) vs
+holds (ours-is model shown) = same (ourEvidence (modelOf model)) shown
+
+-- "model 1,1,1,1,0,0,0,0", with its kind
+abbrev pub tiny : ℕ → List ℕ
+tiny kind = 1 ∷ 1 ∷ 1 ∷ 1 ∷ 0 ∷ 0 ∷ kind ∷ 0 ∷ []
+
+-- "Loop plan"
+abbrev pub loopPlan : List ℕ
+loopPlan =
+    1 ∷ 2 ∷ 2 ∷ 4 ∷ 4 ∷ 0
+    ∷ 0 ∷ 0 ∷ 0
+    ∷ 0 ∷ 0 ∷ 0
+    ∷ 0 ∷ 0 ∷ 0
+    ∷ 1 ∷ 0 ∷ 0
+    ∷ 0 ∷ 1 ∷ 2 ∷ 1 ∷ 1 ∷ 1 ∷ 1
+    ∷ 1 ∷ 2 ∷ 1 ∷ 0 ∷ 2 ∷ 0 ∷ 2
+    ∷ 2 ∷ 1 ∷ 2 ∷ 0 ∷ 2 ∷ 2 ∷ 2
+    ∷ 2 ∷ 3 ∷ 0 ∷ 0 ∷ 0 ∷ 2 ∷ 2 ∷ []
+
+-- "a passing trail, perhaps not ours"
+abbrev pub loopTrail : List ℕ
+loopTrail =
+    2 ∷ 8 ∷ 0 ∷ 0 ∷ 1 ∷ 0 ∷ 0 ∷ 1 ∷ 1
+    ∷ 3 ∷ 0 ∷ 1 ∷ 0 ∷ 1 ∷ 10 ∷ 0 ∷ 0 ∷ 1 ∷ 2 ∷ 0 ∷ 0 ∷ 0 ∷ 0 ∷ 0 ∷ 0 ∷ 1 ∷ 1
+    ∷ 2 ∷ 0 ∷ 2 ∷ 0 ∷ 0 ∷ 1 ∷ 3 ∷ []
+
+unfoldable pub bench : List Case
+bench =
+    -- "P: counts 3 (n=1, M=1), 33 (2, 2), 51 (3, 1), 1,977 (3, 4)."
+    count-is 1 1 3
+    ∷ count-is 2 2 33
+    ∷ count-is 3 1 51
+    ∷ count-is 3 4 1977
+    -- "P: corners of w 0 0, r 2 1 are (0,0), (1,0), (1,1)."
+    ∷ corners-are (clock 0 2 ∷ clock 0 1 ∷ []) ((0 ∷ 0 ∷ []) ∷ (1 ∷ 0 ∷ []) ∷ (1 ∷ 1 ∷ []) ∷ [])
+    -- "P, both at ceiling 2: time from w 1 0, r 0 0 gives w 1 0, r 1 1. P: from w 0 1, r 1 2 gives w 0 2, r 1 0."
+    ∷ time-gives 2 2 (clock 1 0 ∷ clock 0 0 ∷ []) (clock 1 1 ∷ clock 0 1 ∷ [])
+    ∷ time-gives 2 2 (clock 0 1 ∷ clock 1 2 ∷ []) (clock 0 1 ∷ clock 2 0 ∷ [])
+    -- "P: model 1,1,1,1,0,0,0,0 has sheet 1,5,3,1; with kind 1, trail 2,0."
+    ∷ ours-is (tiny 0) (1 ∷ 5 ∷ 3 ∷ 1 ∷ [])
+    ∷ check-gives (tiny 0) (1 ∷ 5 ∷ 3 ∷ 1 ∷ []) 0 (1 ∷ [])
+    ∷ ours-is (tiny 1) (2 ∷ 0 ∷ [])
+    ∷ check-gives (tiny 1) (2 ∷ 0 ∷ []) 0 (2 ∷ [])
+    -- "P: a passing trail, perhaps not ours: 2,8,0,0,1,0,..", "P: its first 33 bytes: 1."
+    ∷ check-gives loopPlan loopTrail 0 (2 ∷ [])
+    ∷ check-gives loopPlan (take 33 loopTrail) 1 []
+    ∷ []

@@ -1,0 +1,4 @@
+-- 01's cases marked P, as one table.
+pub mod Bench
+-- A plan for which the bound on drift is tight.
+pub mod Tight
