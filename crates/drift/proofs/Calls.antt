@@ -5,11 +5,14 @@ use mathlib.Core.Path.{_≡_, refl, sym, _∙_, ap}
 use mathlib.Core.Bool.{true, false}
 use mathlib.Core.List.{List, [], _∷_, _++_}
 use lib.ListN.{length, drop, replicate}
-use borrow.Author.Tests.{ne-eqb, lt-ltb, le-ltb}
-use Rattle.theory.proofs.Below.{and↔, leb↔, test↔}
+use lib.Dec.{eqb}
+use borrow.Author.Tests.{eqb-true, ne-eqb, lt-ltb, le-ltb}
+use Rattle.theory.proofs.Below.{and↔, leb↔, test↔, cond-ind}
 use Rattle.model.specs.declared.Model.{Model}
 use Rattle.model.specs.declared.Reading.{Reading}
 use Rattle.model.specs.Accept.{readModel}
+use Rattle.model.specs.Model.{Lawful}
+use Rattle.model.proofs.Accepted.{accepted-lawful}
 use Rattle.graph.specs.Plan.{systemOfModel}
 use Rattle.graph.specs.States.{states}
 use Rattle.drift.specs.Answer.{answer}
@@ -60,6 +63,15 @@ module _ (m : Model) (out : List ℕ) where
 
 pub not-eight : _≡_ {A = ℕ} 8 0 → ⊥
 not-eight e = absurd (omega arith)
+
+-- where a call is not refused the model is accepted
+pub taken-in : (bytes lent : List ℕ) → refusal bytes lent ≡ 0 → readModel bytes .refusal ≡ 0
+unfolding refusal
+taken-in bytes lent e =
+    cond-ind (λ (r : ℕ). r ≡ 0 → readModel bytes .refusal ≡ 0) (eqb (readModel bytes .refusal) 0) (λ t _. eqb-true _ _ t) (λ _ z. z) e
+
+pub accepted : (bytes lent : List ℕ) → refusal bytes lent ≡ 0 → Lawful (modelOf bytes)
+accepted bytes lent e = accepted-lawful bytes (taken-in bytes lent e)
 
 module _ (bytes lent : List ℕ) where
   -- a reading that is refused

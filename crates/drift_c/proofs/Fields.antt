@@ -13,10 +13,9 @@ use Rattle.theory.specs.System.{System, Laws}
 use Rattle.theory.specs.Marked.{marks, unsafe}
 use Rattle.theory.specs.Trail.{trailSteps}
 use Rattle.theory.proofs.Below.{bit-le, count-le, cond-ind}
-use Rattle.model.specs.Accept.{readModel}
 use Rattle.model.specs.declared.Model.{Model}
 use Rattle.model.specs.Model.{Lawful}
-use Rattle.model.proofs.Accepted.{accepted-lawful}
+use Rattle.drift.proofs.Calls.{accepted}
 use Rattle.graph.specs.Plan.{systemOfModel}
 use Rattle.graph.specs.States.{states}
 use Rattle.graph.proofs.Models.{system-laws}
@@ -27,13 +26,6 @@ use Rattle.drift.specs.Judge.{countOf, verdict, judged}
 use Rattle.drift.specs.Marks.{marksRefusal, marked}
 use Rattle.drift.proofs.Verdict.{steps-verdict, size-states}
 use Rattle.drift_c.specs.Words.{value, judgeWord, marksWord, checkWord, Fields}
-
--- where a call is not refused the model is lawful
-accepted : (bytes lent : List ℕ) → refusal bytes lent ≡ 0 → Lawful (modelOf bytes)
-unfolding refusal
-accepted bytes lent e =
-    accepted-lawful bytes
-    (cond-ind (λ (r : ℕ). r ≡ 0 → readModel bytes .refusal ≡ 0) (eqb (readModel bytes .refusal) 0) (λ t _. eqb-true _ _ t) (λ _ z. z) e)
 
 module _ (m : Model) (ok : Lawful m) where
   count-small : countOf (systemOfModel m) ≤ states m

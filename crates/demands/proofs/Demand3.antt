@@ -1,0 +1,168 @@
+-- Demand 3: "the evidence check passes exactly the evidence that 01 says; each accepted model has passing evidence of just one kind; ..; and a passing
+-- sheet covers every widened run of at most K jumps with (K+1)e < D".
+--
+-- `bytes` spell an accepted model and each scratch slice is long enough: the call is refused by none of 1 to 8.
+use mathlib.Core.Path.{_≡_, refl, sym, ap, subst, _∙_}
+use mathlib.Core.Bool.{true, false, cond, true≢false}
+use mathlib.Core.Logic.{_↔_, _⊎_, inl, inr, ⊎-elim}
+use mathlib.Core.List.{List, [], _∷_}
+use Prim.Native.Nat.{ℕ, _+_, _*_, _≤_, _<_}
+use native.Mathlib.Omega.{arith}
+use lib.ListN.{length, getD}
+use Rattle.theory.specs.Automaton.{Edge, Run}
+use Rattle.theory.specs.System.{System}
+use Rattle.theory.specs.Marked.{Marked, unsafe}
+use Rattle.theory.specs.Sheet.{inOf}
+use Rattle.theory.specs.StateGraph.{labelledOf}
+use Rattle.theory.specs.Walk.{Lex}
+use Rattle.theory.specs.Labels.{LabelledSystem, ClosedLabelWalk, walkKey, closedWalkLabels}
+use Rattle.theory.specs.Replay.{trailKey, ourMoves}
+use Rattle.theory.proofs.Below.{either}
+use Rattle.theory.proofs.Sheet.{is-sheet}
+use Rattle.theory.proofs.Labels.{closes-law}
+use Rattle.theory.proofs.Replay.{passes-law}
+use Rattle.theory.proofs.Verdict.{sheet-sound, sheet-safe, trail-sound}
+use Rattle.theory.proofs.Marked.{is-unsafe}
+use Rattle.theory.proofs.Least.{our-walk-least, our-trail-least}
+use Rattle.model.specs.declared.Model.{Model}
+use Rattle.model.specs.Model.{Lawful}
+use Rattle.graph.specs.Plan.{automatonOf, systemOfModel, labelledOfModel}
+use Rattle.graph.proofs.Models.{system-laws, labelled-laws, sheet-covers}
+use Rattle.evidence.specs.declared.Evidence.{Evidence}
+use Rattle.evidence.specs.declared.Evidence.the-variants as evidence
+use Rattle.evidence.specs.Evidence.{SheetPasses, TrailPasses, checked}
+use Rattle.evidence.specs.Ours.{ourEvidence}
+use Rattle.evidence.proofs.Answers.{sheet-passes, trail-passes, refusal-above}
+use Rattle.evidence.proofs.Ours.{our-sheet, our-trail}
+use Rattle.drift.specs.Answer.{Answer}
+use Rattle.drift.specs.Call.{modelOf, refusal}
+use Rattle.drift.specs.Check.{told, checkAnswer}
+use Rattle.drift.proofs.Calls.{accepted, check-done}
+
+-- the answers "1 for a passing sheet, 2 for a passing trail"
+abbrev pub kindAnswer : ℕ → Answer
+kindAnswer k = record { number = 0; values = k ∷ [] }
+
+told-sheet : (e : Evidence) → told e ≡ kindAnswer 1 → e ≡ evidence.Sheet
+unfolding told
+told-sheet evidence.Sheet h = refl
+told-sheet evidence.Trail h = absurd (omega (arith, ap (λ (a : Answer). getD (a .values) 0 0) h))
+told-sheet (evidence.Refused r) h = absurd (omega (arith, ap (λ (a : Answer). getD (a .values) 0 0) h))
+
+told-trail : (e : Evidence) → told e ≡ kindAnswer 2 → e ≡ evidence.Trail
+unfolding told
+told-trail evidence.Sheet h = absurd (omega (arith, ap (λ (a : Answer). getD (a .values) 0 0) h))
+told-trail evidence.Trail h = refl
+told-trail (evidence.Refused r) h = absurd (omega (arith, ap (λ (a : Answer). getD (a .values) 0 0) h))
+
+module _ (bytes lent : List ℕ) (taken : refusal bytes lent ≡ 0) where
+  abbrev m : Model
+  m = modelOf bytes
+
+  abbrev Y : System
+  Y = systemOfModel m
+
+  abbrev P : LabelledSystem
+  P = labelledOfModel m
+
+  ok : Lawful m
+  ok = accepted bytes lent taken
+
+  -- ---- "the evidence check passes exactly the evidence that 01 says"
+
+  -- it answers 1 exactly where the bytes spell, with nothing after, a sheet that keeps every rule
+  pub sheet-exactly : (shown : List ℕ) → (checkAnswer bytes shown lent ≡ kindAnswer 1) ↔ SheetPasses m shown
+  unfolding told
+  sheet-exactly shown =
+      let done = check-done bytes lent taken shown in (
+        λ e. sheet-passes m shown ok .0 (told-sheet (checked m shown) (sym done ∙ e)),
+        λ p. done ∙ ap told (sheet-passes m shown ok .1 p),
+      )
+
+  -- it answers 2 exactly where they spell a trail whose steps all replay and which ends in a forbidden location
+  pub trail-exactly : (shown : List ℕ) → (checkAnswer bytes shown lent ≡ kindAnswer 2) ↔ TrailPasses m shown
+  unfolding told
+  trail-exactly shown =
+      let done = check-done bytes lent taken shown in (
+        λ e. trail-passes m shown ok .0 (told-trail (checked m shown) (sym done ∙ e)),
+        λ p. done ∙ ap told (trail-passes m shown ok .1 p),
+      )
+
+  -- 01: "For an accepted model and enough scratch the check returns 0 exactly then."
+  pub zero-exactly : (shown : List ℕ) → (checkAnswer bytes shown lent .number ≡ 0) ↔ (SheetPasses m shown ⊎ TrailPasses m shown)
+  unfolding told
+  zero-exactly shown = (
+    λ z. by (checked m shown) refl (ap (λ (a : Answer). a .number) (sym done) ∙ z),
+    ⊎-elim (λ p. ap (λ (a : Answer). a .number) (sheet-exactly shown .1 p)) (λ p. ap (λ (a : Answer). a .number) (trail-exactly shown .1 p)),
+  )
+    where
+      done : checkAnswer bytes shown lent ≡ told (checked m shown)
+      done = check-done bytes lent taken shown
+
+      by : (e : Evidence) → checked m shown ≡ e → told e .number ≡ 0 → SheetPasses m shown ⊎ TrailPasses m shown
+      by evidence.Sheet c z = inl (sheet-passes m shown ok .0 c)
+      by evidence.Trail c z = inr (trail-passes m shown ok .0 c)
+      by (evidence.Refused r) c z = absurd (omega (arith, refusal-above m shown ok r c))
+
+  -- ---- what passing evidence shows
+
+  -- a passing sheet holds every marked state, and none of them is forbidden
+  pub sheet-holds-marked : (shown : List ℕ) (p : SheetPasses m shown) (s : ℕ) → Marked Y s → (inOf (p .0) s ≡ true) × (Y .forbidden s ≡ false)
+  sheet-holds-marked shown (l, s, K) = sheet-sound Y (system-laws m ok) l (is-sheet Y (system-laws m ok) l K)
+
+  sheet-is-safe : (shown : List ℕ) → SheetPasses m shown → unsafe Y ≡ false
+  sheet-is-safe shown (l, s, K) = sheet-safe Y (system-laws m ok) l (is-sheet Y (system-laws m ok) l K)
+
+  trail-is-unsafe : (shown : List ℕ) → TrailPasses m shown → unsafe Y ≡ true
+  unfolding labelledOf
+  trail-is-unsafe shown (vs, s, w) =
+      is-unsafe Y (system-laws m ok) (trail-sound P (labelled-laws m ok) vs (passes-law P vs .1 w))
+
+  -- the verdict is safe exactly where some sheet passes, and unsafe exactly where some trail does; ours are such
+  pub safe-exactly : (unsafe Y ≡ false) ↔ ((shown : List ℕ) × SheetPasses m shown)
+  safe-exactly = (λ u. (ourEvidence m, our-sheet m ok u), λ (shown, p). sheet-is-safe shown p)
+
+  pub unsafe-exactly : (unsafe Y ≡ true) ↔ ((shown : List ℕ) × TrailPasses m shown)
+  unsafe-exactly = (λ u. (ourEvidence m, our-trail m ok u), λ (shown, p). trail-is-unsafe shown p)
+
+  -- ---- "each accepted model has passing evidence of just one kind"
+
+  pub just-one-kind : (((shown : List ℕ) × SheetPasses m shown) × ((shown : List ℕ) → TrailPasses m shown → ⊥))
+      ⊎ (((shown : List ℕ) × TrailPasses m shown) × ((shown : List ℕ) → SheetPasses m shown → ⊥))
+  just-one-kind =
+      ⊎-elim
+      (λ u. inr (unsafe-exactly .0 u, λ shown p. true≢false (sym u ∙ sheet-is-safe shown p)))
+      (λ u. inl (safe-exactly .0 u, λ shown p. true≢false (sym (trail-is-unsafe shown p) ∙ u)))
+      (either (unsafe Y))
+
+  -- our evidence, by its definition, passes: a trail where the verdict is unsafe, a sheet where it is safe
+  pub ours-passes : checkAnswer bytes (ourEvidence m) lent ≡ kindAnswer (cond (unsafe Y) 2 1)
+  ours-passes =
+      ⊎-elim
+      (λ u. rw u (trail-exactly (ourEvidence m) .1 (our-trail m ok u)))
+      (λ u. rw u (sheet-exactly (ourEvidence m) .1 (our-sheet m ok u)))
+      (either (unsafe Y))
+
+  -- 01: "The step count that our trail carries is at most that of every other passing trail of the model ..; of those with as few, ours is the least in
+  -- state numbers read from the start, then in kinds, then in edges." The key of a trail is its count, states, kinds, edges.
+  pub ours-least : (shown : List ℕ) (p : TrailPasses m shown) → Lex (trailKey P (ourMoves P)) (trailKey P (p .0))
+  ours-least shown (vs, s, w) = our-trail-least P (labelled-laws m ok) vs (passes-law P vs .1 w)
+
+  -- "Its walks are chosen alike."
+  pub our-walks-least : (q : ℕ) (xs : List ℕ) → ClosedLabelWalk P xs q → Lex (walkKey P (closedWalkLabels P q) q) (walkKey P xs q)
+  our-walks-least q xs w = our-walk-least P (labelled-laws m ok) q xs (closes-law P xs q .1 w)
+
+  -- ---- "a passing sheet covers every widened run of at most K jumps with (K+1)e < D"
+
+  pub covers : (shown : List ℕ) → SheetPasses m shown → (K e D N : ℕ) → (K + 1) * e < D → 0 < N
+      → (gs : List Edge) (l : ℕ) (v : List ℕ) (t : ℕ) → length gs ≤ K → Run (automatonOf m) N e D gs l v t → automatonOf m .forbidden l ≡ false
+  covers shown (l, s, K) = sheet-covers m ok l (is-sheet Y (system-laws m ok) l K) .enters-none
+
+  -- 01: "K = 9, D = 100: e = 9 is covered"
+  pub covers-nine : (shown : List ℕ) → SheetPasses m shown → (N : ℕ) → 0 < N
+      → (gs : List Edge) (l : ℕ) (v : List ℕ) (t : ℕ) → length gs ≤ 9 → Run (automatonOf m) N 9 100 gs l v t → automatonOf m .forbidden l ≡ false
+  covers-nine shown p N h = covers shown p 9 9 100 N (omega arith) h
+
+-- "e = 10 isn't": the condition fails, and `Tight.not-covered` has a plan, a passing sheet and a run at equality
+pub ten-is-not : (9 + 1) * 10 < 100 → ⊥
+ten-is-not h = omega arith
