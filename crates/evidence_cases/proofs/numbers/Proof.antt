@@ -3,8 +3,8 @@ use Prim.Native.Nat.{_-_, _≤_}
 use mathlib.Core.Path.{_≡_, sym}
 use lib.ListN.{length}
 use lib.Seq.{length-take-le}
-use Rattle.replay_cases.proofs.numbers.Statement.{statement}
-use Rattle.replay_cases.proofs.numbers.Tie as tie
+use Rattle.evidence_cases.proofs.numbers.Statement.{statement}
+use Rattle.evidence_cases.proofs.numbers.Tie as tie
 
 abbrev Inv-loop : tie.InvT-loop
 Inv-loop line out₀ n₀ value₀ i₀ out n value i = (i ≤ length line) × (n ≤ length out) × (length out ≡ length out₀)

@@ -1,14 +1,14 @@
 use borrow.Author.Needs.{needs}
 use Prim.Native.Nat.{_-_, _≤_}
 use lib.ListN.{length}
-use Rattle.replay_cases.proofs.cases.Statement.{statement}
-use Rattle.replay_cases.proofs.cases.Tie as tie
+use Rattle.evidence_cases.proofs.cases.Statement.{statement}
+use Rattle.evidence_cases.proofs.cases.Tie as tie
 
 abbrev Inv-loop : tie.InvT-loop
-Inv-loop m table text at p₀ p = (at ≤ p) × (p ≤ length text)
+Inv-loop plan text at p₀ p = (at ≤ p) × (p ≤ length text)
 
 abbrev μ-loop : tie.MeasureT-loop
-μ-loop m table text at p₀ p = length text - p
+μ-loop plan text at p₀ p = length text - p
 
 pub cases-spec : {M : Type 1} → statement M
 cases-spec =

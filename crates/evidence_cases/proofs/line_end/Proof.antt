@@ -1,8 +1,8 @@
 use borrow.Author.Needs.{needs}
 use Prim.Native.Nat.{_-_, _≤_}
 use lib.ListN.{length}
-use Rattle.replay_cases.proofs.line_end.Statement.{statement}
-use Rattle.replay_cases.proofs.line_end.Tie as tie
+use Rattle.evidence_cases.proofs.line_end.Statement.{statement}
+use Rattle.evidence_cases.proofs.line_end.Tie as tie
 
 abbrev Inv-loop : tie.InvT-loop
 Inv-loop text at i₀ i = (at ≤ i) × (i ≤ length text)

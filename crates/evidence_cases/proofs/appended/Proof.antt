@@ -1,8 +1,8 @@
 use native.Mathlib.Omega.{arith}
 use lib.ListN.{length-set}
 use borrow.Author.Needs.{needs}
-use Rattle.replay_cases.proofs.appended.Statement.{statement}
-use Rattle.replay_cases.proofs.appended.Tie as tie
+use Rattle.evidence_cases.proofs.appended.Statement.{statement}
+use Rattle.evidence_cases.proofs.appended.Tie as tie
 
 pub appended-spec : {M : Type 1} → statement M
 appended-spec =

@@ -1,18 +1,18 @@
-// Standard input has a line for each plan and each piece of evidence, numbers below 256 set apart by commas, as 01 writes them. A line
-// that begins with '-' announces a plan, which stands on the next line; the lines after it are evidence for it that begins with the number
-// 2, or comments that begin with '#'. All but the plans is written back, evidence with the answer behind it.
+// Standard input has a line for each plan and each piece of evidence, bytes set apart by commas, as 01 writes them. A line that begins with
+// '-' announces a plan, which stands on the next line; the lines after it are evidence for it, or comments that begin with '#'. All but the
+// plans is written back, evidence with the answer behind it.
 ghost use mathlib.Core.Path.{_≡_};
 ghost use Prim.Native.Nat.{_+_, _≤_, _<_, min};
 ghost use lib.ListN.{length};
 ghost use Rattle.io.specs.Counts.{Counts};
-ghost use Rattle.model.specs.Model.{Lawful};
-ghost use Rattle.graph.specs.States.{Listed};
+use drift::Evidence;
 use libc::STDIN_FILENO;
 use libc::STDOUT_FILENO;
-use model::Model;
-use region::table::LENGTH;
 
-const ROOM: usize = 64;
+// Bytes of a line.
+const ROOM: usize = 1024;
+
+const SCRATCH: usize = 4000;
 
 // One more number, if there is room.
 fn appended(out: &mut [u8], n: usize, value: u8) -> usize
@@ -77,33 +77,46 @@ fn after(text: &[u8], end: usize) -> usize
     end
 }
 
-fn answer(m: Model, table: &[u32], line: &[u8])
-    requires { ⌜ Lawful m × Listed m (now table) ⌝ }
-{
-    let mut bytes = [0u8; ROOM];
-    let n = numbers(line, &mut bytes);
-    io::write_all(STDOUT_FILENO, b": ");
-    io::print_decimal(
-        STDOUT_FILENO,
-        replay::replay(m, table, &bytes[..n], 1) as u64,
-    );
+fn show_answer(found: Evidence) {
+    match found {
+        Evidence::Sheet => {
+            io::write_all(STDOUT_FILENO, b"passes 1");
+        }
+        Evidence::Trail => {
+            io::write_all(STDOUT_FILENO, b"passes 2");
+        }
+        Evidence::Refused(number) => {
+            io::write_all(STDOUT_FILENO, b"refused ");
+            io::print_decimal(STDOUT_FILENO, number as u64);
+        }
+    }
 }
 
-fn show(m: Model, table: &[u32], line: &[u8])
-    requires { ⌜ Lawful m × Listed m (now table) ⌝ }
-{
+// With scratch that holds something.
+fn answer(plan: &[u8], line: &[u8]) {
+    let mut bytes = [0u8; ROOM];
+    let n = numbers(line, &mut bytes);
+    let mut a = [7u16; SCRATCH];
+    let mut b = [7u16; SCRATCH];
+    let mut c = [7u16; SCRATCH];
+    let mut d = [7u16; SCRATCH];
+    io::write_all(STDOUT_FILENO, b": ");
+    show_answer(drift::check_evidence(plan, &bytes[..n], &mut a, &mut b, &mut c, &mut d));
+}
+
+fn show(plan: &[u8], line: &[u8]) {
     io::write_all(STDOUT_FILENO, line);
     if 0 < line.len() {
         if line[0] != b'#' {
-            answer(m, table, line);
+            answer(plan, line);
         }
     }
     io::write_all(STDOUT_FILENO, b"\n");
 }
 
 // The lines of a plan, from an offset up to the next plan.
-fn cases(m: Model, table: &[u32], text: &[u8], at: usize) -> usize
-    requires { ⌜ Lawful m × Listed m (now table) × (at ≤ length (now text)) ⌝ }
+fn cases(plan: &[u8], text: &[u8], at: usize) -> usize
+    requires { ⌜ at ≤ length (now text) ⌝ }
     ensures { λ r. ⌜ (at ≤ r) × (r ≤ length (now (text .entry))) ⌝ }
 {
     let mut p = at;
@@ -112,19 +125,10 @@ fn cases(m: Model, table: &[u32], text: &[u8], at: usize) -> usize
             return p;
         }
         let end = line_end(text, p);
-        show(m, table, &text[p..end]);
+        show(plan, &text[p..end]);
         p = after(text, end);
     }
     p
-}
-
-fn with_table(m: Model, text: &[u8], at: usize) -> usize
-    requires { ⌜ Lawful m × (at ≤ length (now text)) ⌝ }
-    ensures { λ r. ⌜ (at ≤ r) × (r ≤ length (now (text .entry))) ⌝ }
-{
-    let mut all = [0u32; LENGTH];
-    let count = region::select(m.clocks, m.ceiling, &mut all);
-    cases(m, &all[..count], text, at)
 }
 
 // A plan that stands at an offset, and its lines.
@@ -135,12 +139,7 @@ fn planned(text: &[u8], at: usize) -> usize
     let end = line_end(text, at);
     let mut bytes = [0u8; ROOM];
     let n = numbers(&text[at..end], &mut bytes);
-    let r = model::read_model(&bytes[..n]);
-    if r.refusal != 0 {
-        io::write_all(STDOUT_FILENO, b"refused\n");
-        return after(text, end);
-    }
-    with_table(r.model, text, after(text, end))
+    cases(&bytes[..n], text, after(text, end))
 }
 
 // A plan that is announced at an offset.
@@ -162,7 +161,7 @@ fn plans(text: &[u8]) {
 }
 
 fn main() {
-    let mut text = [0u8; 16384];
+    let mut text = [0u8; 65536];
     let n = io::read_full(STDIN_FILENO, &mut text);
     plans(&text[..n]);
 }
