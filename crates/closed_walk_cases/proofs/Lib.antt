@@ -1,0 +1,2 @@
+-- A test that computes the shape of small arrays.
+pub mod Tests

@@ -1,0 +1,33 @@
+-- `closed_walk_cases::ties`: each graph has its rows in order.
+use mathlib.Core.Path.{refl}
+use borrow.Author.Needs.{needs}
+use native.Mathlib.Omega.{arith}
+use Rattle.theory.specs.Below.{all}
+use Rattle.closed_walk_cases.proofs.Tests.{rows-test}
+use Rattle.closed_walk_cases.proofs.ties.Statement.{statement}
+use Rattle.closed_walk_cases.proofs.ties.Tie as tie
+
+pub ties-spec : {M : Type 1} → statement M
+unfolding all
+ties-spec =
+    tie.close
+    (tie.spec
+    (λ c. search needs)
+    (λ c. search needs)
+    (λ c κs. (omega arith, rows-test _ _ 6 refl))
+    (λ c. search needs)
+    (λ c. search needs)
+    (λ c κs. (omega arith, rows-test _ _ 6 refl))
+    (λ c. search needs)
+    (λ c. search needs)
+    (λ c κs. (omega arith, rows-test _ _ 6 refl))
+    (λ c. search needs)
+    (λ c. search needs)
+    (λ c κs. (omega arith, rows-test _ _ 6 refl))
+    (λ c. search needs)
+    (λ c. search needs)
+    (λ c κs. (omega arith, rows-test _ _ 6 refl))
+    (λ c. search needs)
+    (λ c. search needs)
+    (λ c κs. (omega arith, rows-test _ _ 6 refl))
+    (λ c. search needs))

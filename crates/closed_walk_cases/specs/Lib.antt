@@ -1,0 +1,1 @@
+-- The cases cite the definitions of closed_walk.

@@ -1,0 +1,67 @@
+-- What is laid, part by part; how long the shortest forms are.
+use mathlib.Core.Path.{_≡_, refl, sym, ap, _∙_}
+use mathlib.Core.List.{List, [], _∷_, _++_, append-assoc}
+use Prim.Native.Nat.{ℕ, zero, suc, _+_, _*_, _≤_, _<_}
+use native.Mathlib.Nat.{add-zero}
+use native.Mathlib.Omega.{arith}
+use lib.ListN.{length, length-append, set, length-set, take, drop}
+use lib.Seq.{sets, sets-eq}
+use lib.Dec.{ltb}
+use Rattle.number.specs.Number.{spell, spellAll}
+use Rattle.number.proofs.Laws.{cond-ind}
+use Rattle.spelling.specs.Lays.{Lays}
+
+sets-append : (vs ws l : List ℕ) (i : ℕ) → sets (sets l i vs) (i + length vs) ws ≡ sets l i (vs ++ ws)
+sets-append [] ws l i = ap (λ (k : ℕ). sets l k ws) (add-zero i)
+sets-append (a ∷ vs) ws l i =
+    ap (λ (k : ℕ). sets (sets (set l i a) (suc i) vs) k ws) (let z : i + suc (length vs) ≡ suc i + length vs = omega arith in z)
+    ∙ sets-append vs ws (set l i a) (suc i)
+
+sets-long : (vs l : List ℕ) (i : ℕ) → length (sets l i vs) ≡ length l
+sets-long [] l i = refl
+sets-long (a ∷ vs) l i = sets-long vs (set l i a) (suc i) ∙ length-set l i a
+
+-- nothing
+pub lays-none : (out : List ℕ) (at : ℕ) → Lays out out at at []
+lays-none out at = record { end = omega arith; long = refl; laid = λ _. refl }
+
+-- what doesn't fit is left out
+pub lays-not : (out bs : List ℕ) (at r : ℕ) → r ≡ at + length bs → length out < r → Lays out out at r bs
+lays-not out bs at r e h = record { end = e; long = refl; laid = λ k. absurd (omega arith) }
+
+-- one after the other
+pub lays-then : {o o₁ o₂ bs cs : List ℕ} {at r s : ℕ} → Lays o o₁ at r bs → Lays o₁ o₂ r s cs → Lays o o₂ at s (bs ++ cs)
+lays-then {o} {o₁} {bs = bs} {cs = cs} {at = at} {s = s} a b = record {
+  end = omega (arith, a .end, b .end, length-append bs cs);
+  long = b .long ∙ a .long;
+  laid = λ h.
+      let p : _ ≤ length o = omega (arith, b .end) in
+      let k : s ≤ length o₁ = omega (arith, a .long) in
+      b .laid k ∙ (ap (λ (l : List ℕ). sets l _ cs) (a .laid p) ∙ (ap (λ (i : ℕ). sets (sets o at bs) i cs) (a .end) ∙ sets-append bs cs o at));
+}
+
+-- from the first byte on the rest is untouched
+pub lays-whole : {o o′ bs : List ℕ} {r : ℕ} → Lays o o′ 0 r bs → r ≤ length o → o′ ≡ bs ++ drop (length bs) o
+lays-whole {o} {bs = bs} a h = a .laid h ∙ sets-eq bs o 0 (omega (arith, a .end))
+
+-- into an output of its own
+pub lays-as : {o o′ bs cs : List ℕ} {at r : ℕ} → Lays o o′ at r bs → bs ≡ cs → Lays o o′ at r cs
+lays-as {o} {o′} {at = at} {r = r} a e = rw e at a
+
+-- ---- the shortest forms
+
+pub spell-few : (v : ℕ) → length (spell v) ≤ 3
+unfolding spell
+spell-few v =
+    cond-ind (λ (g : List ℕ). length g ≤ 3) (ltb v 128) (λ _. omega arith)
+    (λ _. cond-ind (λ (g : List ℕ). length g ≤ 3) (ltb v 16384) (λ _. omega arith) (λ _. omega arith))
+
+pub spell-all-few : (vs : List ℕ) → length (spellAll vs) ≤ 3 * length vs
+unfolding spellAll
+spell-all-few [] = omega arith
+spell-all-few (v ∷ vs) = omega (arith, length-append (spell v) (spellAll vs), spell-few v, spell-all-few vs)
+
+pub spell-append : (vs ws : List ℕ) → spellAll (vs ++ ws) ≡ spellAll vs ++ spellAll ws
+unfolding spellAll
+spell-append [] ws = refl
+spell-append (v ∷ vs) ws = ap (λ (l : List ℕ). spell v ++ l) (spell-append vs ws) ∙ sym (append-assoc (spell v) (spellAll vs) (spellAll ws))

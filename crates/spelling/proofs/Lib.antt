@@ -1,0 +1,2 @@
+-- Laws of what is laid.
+pub mod Lays

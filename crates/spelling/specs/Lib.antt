@@ -1,0 +1,2 @@
+-- Bytes laid into a lent output.
+pub mod Lays
