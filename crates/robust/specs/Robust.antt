@@ -1,0 +1,37 @@
+-- Runs of any number of jumps under drift, and the rule of 01 on resets, for timed automata.
+use mathlib.Core.Path.{_≡_}
+use mathlib.Core.List.{List, [], _∷_, List·Memᴰ}
+use mathlib.Core.Bool.{Bool, true, false}
+use Prim.Native.Nat.{ℕ, _*_, _<_}
+use lib.ListN.{getD}
+use Rattle.theory.specs.Lists.{some}
+use Rattle.theory.specs.Automaton.{Automaton, Edge, Run}
+
+-- ---- drift that is harmless for ever
+
+-- No widened run whose drift e/D is below 1/A enters a forbidden location, however many jumps it has, for any N from 1.
+pub record RobustlySafe (m : Automaton) (A : ℕ) : Type 0 where
+  pub enters-none : (e D N : ℕ) → A * e < D → 0 < N
+      → (gs : List Edge) (l : ℕ) (v : List ℕ) (t : ℕ) → Run m N e D gs l v t → m .forbidden l ≡ false
+
+-- ---- drift that does harm, however slight
+
+-- With every drift e/D above 0 some widened run, with waits in N-ths for some N from 1, enters a forbidden location.
+pub record Fragile (m : Automaton) : Type 0 where
+  pub enters-some : (e D : ℕ) → 0 < e → 0 < D
+      → (N : ℕ) × (0 < N) × (gs : List Edge) × (l : ℕ) × (v : List ℕ) × (t : ℕ) × Run m N e D gs l v t × (m .forbidden l ≡ true)
+
+-- ---- "tested on the drawing alone: a model with a closed walk of edges that leaves some clock unreset is refused"
+
+-- a walk of edges from a location to a location
+pub data EdgeWalk (m : Automaton) : ℕ → ℕ → List Edge → Type 0 where
+  stop : {l : ℕ} → EdgeWalk m l l []
+  move : {l k : ℕ} {gs : List Edge} (g : Edge) → List·Memᴰ g (m .edges) → g .source ≡ l → EdgeWalk m (g .target) k gs → EdgeWalk m l k (g ∷ gs)
+
+-- the edge resets clock x
+abbrev pub resetsClock : ℕ → Edge → Bool
+resetsClock x g = getD (g .reset) x false
+
+-- "A closed walk has one or more edges (or steps) and ends at its beginning." Each of them resets each clock.
+pub record LoopsReset (m : Automaton) : Type 0 where
+  pub resets : (x : ℕ) → x < m .clocks → (l : ℕ) (g : Edge) (gs : List Edge) → EdgeWalk m l l (g ∷ gs) → some (resetsClock x) (g ∷ gs) ≡ true

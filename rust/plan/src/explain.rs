@@ -1,0 +1,165 @@
+//! Refusals in words, and what in a given model or evidence they are about.
+
+use crate::bytes::decode;
+use crate::flaw::{Flaw, Numbers};
+use crate::sheet::{read_sheet, SHEET};
+use crate::trail::{read_trail, TRAIL};
+use crate::Plan;
+use second::calls::states_of;
+use second::program::SCRATCH;
+use second::refusal::NO_EVIDENCE;
+
+/// What each refusal, 1 to 14, means and what to do about it.
+const REFUSALS: [(&str, &str); 14] = [
+    (
+        "the bytes end too soon",
+        "The file stops in the middle of a plan or of evidence. It was probably cut when it \
+         was copied: copy it again, or count what the header announces.",
+    ),
+    (
+        "a number is spelt too long",
+        "A number takes at most three bytes, and a third byte says that a fourth follows. The \
+         file is damaged, or it is no plan or evidence at all.",
+    ),
+    (
+        "a number of the header is out of range",
+        "A plan begins with the mark 1, then clocks (1 to 3), ceiling (1 to 4), locations (1 \
+         to 8), edges (0 to 24) and the start location, which must be one of the locations.",
+    ),
+    (
+        "a number of a location is out of range",
+        "A location's kind is 0 (ordinary) or 1 (forbidden); each stay field is 0 for the \
+         ceiling, or one more than the limit, so at most the ceiling plus 1.",
+    ),
+    (
+        "a number of an edge is out of range, or a low is above its high",
+        "An edge joins two of the plan's locations, resets only clocks that there are, and \
+         opens from a low to a high of each clock, both at most the ceiling, the low not above \
+         the high.",
+    ),
+    (
+        "bytes remain at the end",
+        "More follows than the plan, sheet or trail needs. Two files may have been joined, or \
+         a count in the file is too small.",
+    ),
+    (
+        "a loop of edges leaves a clock unreset",
+        "Whoever walks along edges back to where he began must pass a reset of every clock. \
+         Let one edge of the loop reset the clock, even if the loop can never be walked in \
+         time.",
+    ),
+    (
+        "the lent scratch memory is too small for the plan",
+        "The four scratch slices need one number for each state, and the plan has more states \
+         than that. Lend more, or draw a smaller plan: fewer clocks or a lower ceiling help \
+         most.",
+    ),
+    (
+        "the lent output is too short",
+        "The marks or the evidence do not fit into the output. Nothing was written; lend more \
+         bytes.",
+    ),
+    (
+        "the evidence is neither a sheet nor a trail",
+        "Evidence begins with 1 (a sheet, for a safe plan) or 2 (a trail, for an unsafe one). \
+         Perhaps this file is a plan, or another kind of file.",
+    ),
+    (
+        "a number of the sheet is out of range",
+        "Each state's number is at most twice the number of states less one, and 0 where the \
+         state is beyond a stay limit. The sheet is damaged or belongs to another plan.",
+    ),
+    (
+        "the sheet breaks a rule",
+        "All numbers are in range, but they do not show that the plan is safe: the start must \
+         be in, no step may lead out or raise the height, no loop may hide where drift can \
+         touch it, and nothing forbidden may be in.",
+    ),
+    (
+        "a step of the trail cannot be taken",
+        "Followed from the start, some step is not possible in this plan: the wrong edge, a \
+         guard or stay limit not met, a region that is not near, or a loop that does not \
+         close. The trail is damaged or belongs to another plan.",
+    ),
+    (
+        "the trail ends in an ordinary location",
+        "Every step can be taken, but the last one does not lead into a forbidden location, so \
+         the trail shows no danger.",
+    ),
+];
+
+/// A refusal in words; none for a number that is no refusal.
+pub fn refusal_words(number: u8) -> Option<String> {
+    let (meaning, advice) = REFUSALS.get(usize::from(number).checked_sub(1)?)?;
+    Some(format!("refused {number}: {meaning}\n{advice}\n"))
+}
+
+/// What in the model, and in the evidence if given, a refusal is about.
+pub fn about(number: u8, model: &[u8], evidence: Option<&[u8]>) -> String {
+    let plan = match decode(model) {
+        Err(flaw) => return matching(number, "this model", &flaw),
+        Ok(plan) => plan,
+    };
+    let states = states_of(&plan.model());
+    match (number, evidence) {
+        (8, _) => room_words(states),
+        (9, _) => {
+            let room = sheet_room(states);
+            format!("here: the marks take {states} bytes; a sheet takes at most {room}\n")
+        }
+        (_, None) if number > 9 => {
+            "here: the model is read without a flaw; give the evidence too, since this refusal \
+             is about it\n"
+                .to_string()
+        }
+        (_, None) => {
+            format!("here: this model has no flaw {number}, nor any other that reading shows\n")
+        }
+        (_, Some(evidence)) => match read_evidence(&plan, evidence) {
+            Err(flaw) => matching(number, "this evidence", &flaw),
+            Ok(kind) => {
+                format!("here: no flaw in this {kind}; the proved check has the last word\n")
+            }
+        },
+    }
+}
+
+/// The most bytes of a sheet: a mark, then the longest number for each state.
+fn sheet_room(states: usize) -> usize {
+    let longest = second::numbers::shortest(&[2 * states as u32 - 1]).len();
+    1 + longest * states
+}
+
+fn room_words(states: usize) -> String {
+    let enough = if states <= SCRATCH {
+        "so their scratch is enough"
+    } else {
+        "so they refuse it"
+    };
+    format!(
+        "here: this model has {states} states; the programs lend scratch for {SCRATCH}, {enough}\n"
+    )
+}
+
+fn matching(number: u8, what: &str, flaw: &Flaw) -> String {
+    if flaw.refusal == number {
+        return format!("here: {}\n", flaw.words);
+    }
+    format!(
+        "here: {what} has no such flaw first; it is refused by {}: {}\n",
+        flaw.refusal, flaw.words
+    )
+}
+
+/// Follows evidence of either kind: its name, or its first flaw.
+pub fn read_evidence(plan: &Plan, evidence: &[u8]) -> Result<&'static str, Flaw> {
+    let mut numbers = Numbers::new(evidence);
+    match numbers.next("the mark of the evidence")? {
+        SHEET => read_sheet(plan, evidence).map(|_| "sheet"),
+        TRAIL => read_trail(plan, evidence).flaw.map_or(Ok("trail"), Err),
+        other => {
+            let words = format!("the mark of the evidence: it is {other}, but must be 1 or 2");
+            Err(numbers.flaw(NO_EVIDENCE, &words))
+        }
+    }
+}

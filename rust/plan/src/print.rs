@@ -1,0 +1,58 @@
+//! A plan written as text, in the form that `read_text` reads.
+
+use crate::Plan;
+
+/// The text of a plan; what is said by leaving it out is left out.
+pub fn write_text(plan: &Plan) -> String {
+    let mut text = format!(
+        "clocks {}\nceiling {}\n\n",
+        plan.clocks.join(" "),
+        plan.ceiling
+    );
+    for at in 0..plan.locations.len() {
+        text += &location_line(plan, at);
+    }
+    if !plan.edges.is_empty() {
+        text.push('\n');
+    }
+    for at in 0..plan.edges.len() {
+        text += &edge_line(plan, at);
+    }
+    text
+}
+
+fn location_line(plan: &Plan, at: usize) -> String {
+    let mut line = format!("location {}", plan.locations[at].name);
+    if plan.start == at {
+        line += " start";
+    }
+    if plan.locations[at].forbidden {
+        line += " forbidden";
+    }
+    let stay = plan.stay_words(at);
+    if !stay.is_empty() {
+        line += &format!(" stay {}", stay.join(", "));
+    }
+    line + "\n"
+}
+
+fn edge_line(plan: &Plan, at: usize) -> String {
+    let edge = &plan.edges[at];
+    let mut line = "edge ".to_string();
+    if let Some(name) = &edge.name {
+        line += &format!("{name}: ");
+    }
+    line += &format!(
+        "{} -> {}",
+        plan.locations[edge.from].name, plan.locations[edge.to].name
+    );
+    let guard = plan.guard_words(edge);
+    if !guard.is_empty() {
+        line += &format!(" when {}", guard.join(", "));
+    }
+    let resets = plan.reset_names(edge);
+    if !resets.is_empty() {
+        line += &format!(" reset {}", resets.join(", "));
+    }
+    line + "\n"
+}
