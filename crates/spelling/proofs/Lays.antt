@@ -2,9 +2,9 @@
 use mathlib.Core.Path.{_≡_, refl, sym, ap, _∙_}
 use mathlib.Core.List.{List, [], _∷_, _++_, append-assoc}
 use Prim.Native.Nat.{ℕ, zero, suc, _+_, _*_, _≤_, _<_}
-use native.Mathlib.Nat.{add-zero}
+use native.Mathlib.Nat.{add-zero, zero-add}
 use native.Mathlib.Omega.{arith}
-use lib.ListN.{length, length-append, set, length-set, take, drop}
+use lib.ListN.{length, length-append, set, length-set, drop}
 use lib.Seq.{sets, sets-eq}
 use lib.Dec.{ltb}
 use Rattle.number.specs.Number.{spell, spellAll}
@@ -31,18 +31,19 @@ lays-not out bs at r e h = record { end = e; long = refl; laid = λ k. absurd (o
 
 -- one after the other
 pub lays-then : {o o₁ o₂ bs cs : List ℕ} {at r s : ℕ} → Lays o o₁ at r bs → Lays o₁ o₂ r s cs → Lays o o₂ at s (bs ++ cs)
-lays-then {o} {o₁} {bs = bs} {cs = cs} {at = at} {s = s} a b = record {
+lays-then {o} {o₁} {bs = bs} {cs = cs} {at = at} {r = r} {s = s} a b = record {
   end = omega (arith, a .end, b .end, length-append bs cs);
   long = b .long ∙ a .long;
   laid = λ h.
-      let p : _ ≤ length o = omega (arith, b .end) in
+      let p : r ≤ length o = omega (arith, b .end) in
       let k : s ≤ length o₁ = omega (arith, a .long) in
-      b .laid k ∙ (ap (λ (l : List ℕ). sets l _ cs) (a .laid p) ∙ (ap (λ (i : ℕ). sets (sets o at bs) i cs) (a .end) ∙ sets-append bs cs o at));
+      b .laid k ∙ (ap (λ (l : List ℕ). sets l r cs) (a .laid p) ∙ (ap (λ (i : ℕ). sets (sets o at bs) i cs) (a .end) ∙ sets-append bs cs o at));
 }
 
 -- from the first byte on the rest is untouched
 pub lays-whole : {o o′ bs : List ℕ} {r : ℕ} → Lays o o′ 0 r bs → r ≤ length o → o′ ≡ bs ++ drop (length bs) o
-lays-whole {o} {bs = bs} a h = a .laid h ∙ sets-eq bs o 0 (omega (arith, a .end))
+lays-whole {o} {bs = bs} a h =
+    a .laid h ∙ (sets-eq bs o 0 (omega (arith, a .end)) ∙ ap (λ (k : ℕ). bs ++ drop k o) (zero-add (length bs)))
 
 -- into an output of its own
 pub lays-as : {o o′ bs cs : List ℕ} {at r : ℕ} → Lays o o′ at r bs → bs ≡ cs → Lays o o′ at r cs
