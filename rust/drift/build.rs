@@ -6,10 +6,12 @@ use std::path::PathBuf;
 
 fn main() {
     println!("cargo:rerun-if-env-changed=DRIFT_LIB");
-    let folder = env::var("DRIFT_LIB").map(PathBuf::from).unwrap_or_else(|_| {
-        let here = env::var("CARGO_MANIFEST_DIR").expect("cargo names the folder");
-        PathBuf::from(here).join("../../target/staticlib")
-    });
+    let folder = env::var("DRIFT_LIB")
+        .map(PathBuf::from)
+        .unwrap_or_else(|_| {
+            let here = env::var("CARGO_MANIFEST_DIR").expect("cargo names the folder");
+            PathBuf::from(here).join("../../target/staticlib")
+        });
     println!("cargo:rustc-link-search=native={}", folder.display());
     println!("cargo:rustc-link-lib=static=drift_c");
     println!("cargo:rerun-if-changed={}/libdrift_c.a", folder.display());

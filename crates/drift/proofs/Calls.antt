@@ -22,6 +22,10 @@ use Rattle.drift.specs.Marks.{short, marksRefusal, marked, marksOf, mark
 use Rattle.drift.specs.declared.Judgement.the-variants.{Refused}
 use Rattle.drift.specs.Marks as Marks
 use Rattle.drift.specs.Check as Check
+use Rattle.drift.specs.Write as Write
+use Rattle.drift.specs.Write.{writeAnswer, writeOutput}
+use Rattle.evidence_writer.specs.Written.{evidenceIn, writtenFor}
+use Rattle.evidence_writer.specs.declared.Written.the-variants as written
 use Rattle.drift.specs.Check.{checkAnswer}
 use Rattle.evidence.specs.Evidence.{checked}
 use Rattle.evidence.specs.declared.Evidence.the-variants as evidence
@@ -111,6 +115,14 @@ module _ (bytes lent : List ℕ) where
     unfolding Check.told checkAnswer answer
     check-refused shown = simp (is, ne-eqb r 0 ne) refl
 
+    pub write-refused : (k : ℕ) → Write.told (written.Refused r) ≡ writeAnswer bytes lent k
+    unfolding Write.told writeAnswer answer
+    write-refused k = simp (is, ne-eqb r 0 ne) refl
+
+    pub write-alone : (xs : List ℕ) → xs ≡ writeOutput bytes lent xs
+    unfolding writeOutput
+    write-alone xs = simp (is, ne-eqb r 0 ne) refl
+
     pub output-alone : (xs : List ℕ) → xs ≡ output bytes lent xs
     unfolding output
     output-alone xs = simp (is, ne-eqb r 0 ne) refl
@@ -132,6 +144,14 @@ module _ (bytes lent : List ℕ) where
     pub check-done : (shown : List ℕ) → checkAnswer bytes shown lent ≡ Check.told (checked (modelOf bytes) shown)
     unfolding checkAnswer
     check-done shown = simp is refl
+
+    pub write-done : (k : ℕ) → writeAnswer bytes lent k ≡ Write.told (writtenFor (modelOf bytes) k)
+    unfolding writeAnswer
+    write-done k = simp is refl
+
+    pub write-output : (xs : List ℕ) → writeOutput bytes lent xs ≡ evidenceIn (modelOf bytes) xs
+    unfolding writeOutput
+    write-output xs = simp is refl
 
     pub output-done : (xs : List ℕ) → output bytes lent xs ≡ marksIn (modelOf bytes) xs
     unfolding output

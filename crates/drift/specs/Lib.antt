@@ -10,3 +10,5 @@ pub mod Judge
 pub mod Marks
 -- The evidence check.
 pub mod Check
+-- The evidence writer.
+pub mod Write

@@ -9,13 +9,16 @@ ghost use Rattle.graph.specs.Plan.{systemOfModel};
 ghost use Rattle.graph.specs.States.{states};
 ghost use Rattle.marking.specs.Tables.{Distances};
 ghost use Rattle.evidence.specs.Evidence.{checked};
+ghost use Rattle.evidence_writer.specs.Written.{evidenceIn, writtenFor};
 ghost use Rattle.drift.specs.Answer.{answer};
 ghost use Rattle.drift.specs.Call.{lengths, enough, left};
 ghost use Rattle.drift.specs.Judge.{verdict, judged, told};
 ghost use Rattle.drift.specs.Marks.{short, marksIn, marked, marksOf, output, told as toldMarks};
 ghost use Rattle.drift.specs.Check.{checkAnswer, told as toldCheck};
-use model::Model;
+ghost use Rattle.drift.specs.Write.{writeAnswer, writeOutput, told as toldWrite};
 pub use evidence::Evidence;
+pub use evidence_writer::Written;
+use model::Model;
 
 // The verdict on a plan, with the number of states, and the marked states or the steps of our trail.
 pub enum Judgement {
@@ -265,4 +268,61 @@ pub fn check_evidence(
         return check_model(m, shown, &mut a[..s], &mut b[..s], &mut c[..s], &mut d[..s]);
     }
     Evidence::Refused(8)
+}
+
+// ---- The evidence writer.
+
+// With slices of just S numbers, which are zero afterwards.
+fn write_model(
+    m: Model,
+    a: &mut [u16],
+    b: &mut [u16],
+    c: &mut [u16],
+    d: &mut [u16],
+    out: &mut [u8],
+) -> Written
+    requires { ⌜ Lawful m ⌝ }
+    requires { ⌜ (length (now a) ≡ states m) × (length (now b) ≡ states m) × (length (now c) ≡ states m) × (length (now d) ≡ states m) ⌝ }
+    ensures { λ r. ⌜ (r ≡ writtenFor m (length (now (out .entry)))) × (now (out .exit) ≡ evidenceIn m (now (out .entry))) ⌝ }
+    ensures { λ _. ⌜
+        (now (a .exit) ≡ replicate (states m) 0) × (now (b .exit) ≡ replicate (states m) 0)
+        × (now (c .exit) ≡ replicate (states m) 0) × (now (d .exit) ≡ replicate (states m) 0)
+        ⌝ }
+{
+    let found = evidence_writer::write(m, a, b, c, d, out);
+    clear_all(a, b, c, d);
+    found
+}
+
+// 01: our evidence for the plan that the bytes spell, from the output's first byte on; the verdict and the number of bytes come back, or a refusal, 1 to 9.
+pub fn write_evidence(
+    bytes: &[u8],
+    a: &mut [u16],
+    b: &mut [u16],
+    c: &mut [u16],
+    d: &mut [u16],
+    out: &mut [u8],
+) -> Written
+    ensures { λ r. ⌜ toldWrite r ≡ writeAnswer (now (bytes .entry))
+        (lengths (now (a .entry)) (now (b .entry)) (now (c .entry)) (now (d .entry))) (length (now (out .entry))) ⌝ }
+    ensures { λ _. ⌜ now (out .exit) ≡ writeOutput (now (bytes .entry))
+        (lengths (now (a .entry)) (now (b .entry)) (now (c .entry)) (now (d .entry))) (now (out .entry)) ⌝ }
+    ensures { λ _. ⌜
+        (now (a .exit) ≡ left (now (bytes .entry)) (lengths (now (a .entry)) (now (b .entry)) (now (c .entry)) (now (d .entry))) (now (a .entry)))
+        × (now (b .exit) ≡ left (now (bytes .entry)) (lengths (now (a .entry)) (now (b .entry)) (now (c .entry)) (now (d .entry))) (now (b .entry)))
+        × (now (c .exit) ≡ left (now (bytes .entry)) (lengths (now (a .entry)) (now (b .entry)) (now (c .entry)) (now (d .entry))) (now (c .entry)))
+        × (now (d .exit) ≡ left (now (bytes .entry)) (lengths (now (a .entry)) (now (b .entry)) (now (c .entry)) (now (d .entry))) (now (d .entry)))
+        ⌝ }
+{
+    let read = model::read_model(bytes);
+    let refusal = read.refusal;
+    if refusal != 0 {
+        return Written::Refused(refusal);
+    }
+    let m = read.model;
+    let s = graph::state_count(m);
+    if is_enough(s, a.len(), b.len(), c.len(), d.len()) {
+        return write_model(m, &mut a[..s], &mut b[..s], &mut c[..s], &mut d[..s], out);
+    }
+    Written::Refused(8)
 }

@@ -24,7 +24,8 @@ use Rattle.drift.specs.Answer.{Answer, answer}
 use Rattle.drift.specs.Call.{modelOf, statesOf, enough, refusal}
 use Rattle.drift.specs.Judge.{countOf, verdict, judged}
 use Rattle.drift.specs.Marks.{marksRefusal, marked}
-use Rattle.drift.proofs.Verdict.{steps-verdict, size-states}
+use Rattle.survey.proofs.Tables.{size-states}
+use Rattle.evidence_writer.proofs.Verdict.{steps-verdict}
 use Rattle.drift_c.specs.Words.{value, judgeWord, marksWord, checkWord, Fields}
 
 module _ (m : Model) (ok : Lawful m) where

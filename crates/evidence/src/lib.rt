@@ -49,8 +49,30 @@ fn fill_and_check(
         × (length (now head) ≡ pointCount) × (length (now link) ≡ slotCount * regionsIn m) ⌝ }
     ensures { λ r. ⌜ r ≡ sheetAnswer m (now (bytes .entry)) at ⌝ }
 {
-    survey::fill_tables(m, table, allowed, first, targets, rows, faces, corner, head, link);
-    sheet::check_sheet(m, bytes, at, allowed, first, targets, rows, faces, corner, sheet)
+    survey::fill_tables(
+        m,
+        table,
+        allowed,
+        first,
+        targets,
+        rows,
+        faces,
+        corner,
+        head,
+        link,
+    );
+    sheet::check_sheet(
+        m,
+        bytes,
+        at,
+        allowed,
+        first,
+        targets,
+        rows,
+        faces,
+        corner,
+        sheet,
+    )
 }
 
 // The same with tables of its own.

@@ -1,6 +1,6 @@
 // Standard input has a line for each plan and each piece of evidence, bytes set apart by commas, as 01 writes them. A line that begins with
-// '-' announces a plan, which stands on the next line; the lines after it are evidence for it, or comments that begin with '#'. All but the
-// plans is written back, evidence with the answer behind it.
+// '-' announces a plan, which stands on the next line; the lines after it are evidence for it, an empty one too, or comments that begin with
+// '#'. All but the plans is written back, evidence with the answer behind it: 0 and the kind, or the refusal.
 ghost use mathlib.Core.Path.{_≡_};
 ghost use Prim.Native.Nat.{_+_, _≤_, _<_, min};
 ghost use lib.ListN.{length};
@@ -31,10 +31,13 @@ fn extended(value: u8, digit: u8) -> u8 {
     ((value as u16 * 10 + digit as u16 % 16) % 256) as u8
 }
 
-// The numbers of a line at the front of out; how many.
+// The numbers of a line at the front of out; how many. An empty line has none.
 fn numbers(line: &[u8], out: &mut [u8]) -> usize
     ensures { λ r. ⌜ Counts r (now (out .exit)) ⌝ }
 {
+    if line.len() == 0 {
+        return 0;
+    }
     let mut n = 0;
     let mut value = 0;
     let mut i = 0;
@@ -80,13 +83,12 @@ fn after(text: &[u8], end: usize) -> usize
 fn show_answer(found: Evidence) {
     match found {
         Evidence::Sheet => {
-            io::write_all(STDOUT_FILENO, b"passes 1");
+            io::write_all(STDOUT_FILENO, b"0 1");
         }
         Evidence::Trail => {
-            io::write_all(STDOUT_FILENO, b"passes 2");
+            io::write_all(STDOUT_FILENO, b"0 2");
         }
         Evidence::Refused(number) => {
-            io::write_all(STDOUT_FILENO, b"refused ");
             io::print_decimal(STDOUT_FILENO, number as u64);
         }
     }
@@ -104,12 +106,17 @@ fn answer(plan: &[u8], line: &[u8]) {
     show_answer(drift::check_evidence(plan, &bytes[..n], &mut a, &mut b, &mut c, &mut d));
 }
 
+fn is_comment(line: &[u8]) -> bool {
+    if 0 < line.len() {
+        return line[0] == b'#';
+    }
+    false
+}
+
 fn show(plan: &[u8], line: &[u8]) {
     io::write_all(STDOUT_FILENO, line);
-    if 0 < line.len() {
-        if line[0] != b'#' {
-            answer(plan, line);
-        }
+    if !is_comment(line) {
+        answer(plan, line);
     }
     io::write_all(STDOUT_FILENO, b"\n");
 }

@@ -208,7 +208,18 @@ fn fill_and_search(
         × (length (now spare) ≡ states m) ⌝ }
     ensures { λ _. ⌜ Surveyed m (now (info .exit)) (now (far .exit)) ⌝ }
 {
-    fill_tables(m, table, allowed, first, targets, rows, faces, corner, head, link);
+    fill_tables(
+        m,
+        table,
+        allowed,
+        first,
+        targets,
+        rows,
+        faces,
+        corner,
+        head,
+        link,
+    );
     search(
         m,
         first,

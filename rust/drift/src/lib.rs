@@ -31,6 +31,20 @@ mod raw {
             out: *mut u8,
             out_length: usize,
         ) -> u64;
+        pub fn drift_check_evidence(
+            model: *const u8,
+            model_length: usize,
+            evidence: *const u8,
+            evidence_length: usize,
+            a: *mut u16,
+            a_length: usize,
+            b: *mut u16,
+            b_length: usize,
+            c: *mut u16,
+            c_length: usize,
+            d: *mut u16,
+            d_length: usize,
+        ) -> u64;
     }
 }
 
@@ -47,6 +61,15 @@ pub struct Judgement {
     pub states: usize,
     /// Marked states if safe, steps of our trail if unsafe.
     pub count: usize,
+}
+
+/// What passed the check of evidence.
+#[derive(Clone, Copy, Debug, PartialEq, Eq)]
+pub enum Kind {
+    /// A sheet that keeps the rules.
+    Sheet,
+    /// A trail that replays to a forbidden location.
+    Trail,
 }
 
 fn accepted(answer: u64) -> Result<u64, Refusal> {
@@ -104,4 +127,33 @@ pub fn marks(model: &[u8], scratch: Scratch, out: &mut [u8]) -> Result<usize, Re
         )
     })?;
     Ok((answer >> 16) as usize)
+}
+
+/// Whether evidence from anywhere passes for a plan, and of which kind it is.
+/// The refusals 1, 2 and 6 may come from the model, which leaves the scratch
+/// untouched, or from the evidence, which leaves its first S at zero.
+pub fn check_evidence(model: &[u8], evidence: &[u8], scratch: Scratch) -> Result<Kind, Refusal> {
+    let [a, b, c, d] = scratch;
+    // SAFETY: as in `judge`.
+    let answer = accepted(unsafe {
+        raw::drift_check_evidence(
+            model.as_ptr(),
+            model.len(),
+            evidence.as_ptr(),
+            evidence.len(),
+            a.as_mut_ptr(),
+            a.len(),
+            b.as_mut_ptr(),
+            b.len(),
+            c.as_mut_ptr(),
+            c.len(),
+            d.as_mut_ptr(),
+            d.len(),
+        )
+    })?;
+    match answer >> 8 {
+        1 => Ok(Kind::Sheet),
+        2 => Ok(Kind::Trail),
+        kind => unreachable!("kind {kind}, where only 1 and 2 are proved possible"),
+    }
 }

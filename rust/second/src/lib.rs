@@ -2,7 +2,8 @@
 //!
 //! The modules follow the order of that document: numbers, models, regions,
 //! steps, the marked set, evidence, calls. `brute` does everything again by
-//! naive definitions, `generate` and `mutate` make inputs for comparisons.
+//! naive definitions; `generate`, `mutate` and `other` make inputs for
+//! comparisons, `cases` those of a proved program.
 
 // Loops over clocks and states index several lists at once.
 #![allow(clippy::needless_range_loop)]
@@ -10,6 +11,7 @@
 pub mod bench;
 pub mod brute;
 pub mod calls;
+pub mod cases;
 pub mod check;
 pub mod components;
 pub mod draft;
@@ -19,6 +21,7 @@ pub mod marking;
 pub mod model;
 pub mod mutate;
 pub mod numbers;
+pub mod other;
 pub mod program;
 pub mod random;
 pub mod refusal;

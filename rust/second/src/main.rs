@@ -3,6 +3,7 @@
 
 use second::bench::bench;
 use second::calls::{check_evidence, marks};
+use second::cases::{answers, cases};
 use second::generate::{generate, shares, KINDS};
 use second::graph::{Graph, JUMP, TIME};
 use second::model::read_model;
@@ -24,6 +25,8 @@ second generate --kinds                  the kinds
 second generate --shares [COUNT]         shares of kinds, classes and refusals
 second mutate SEED MODEL EVIDENCE [KIND] changed evidence
 second mutate --kinds                    the kinds of change
+second cases                             cases of evidence for several plans
+second answers FILE|- [SCRATCH]          those cases with their answers
 second bench                             timings
 
 A file whose name ends in .plan holds bytes as text; - is standard input.
@@ -50,7 +53,7 @@ fn run(mut arguments: Vec<String>) -> Result<Vec<u8>, String> {
     let words: Vec<&str> = arguments.iter().map(String::as_str).collect();
     // A last argument may give the scratch length too.
     let words = match words.as_slice() {
-        [command @ ("judge" | "evidence" | "marks"), file, length] => {
+        [command @ ("judge" | "evidence" | "marks" | "answers"), file, length] => {
             scratch = number(length)?;
             vec![*command, *file]
         }
@@ -97,6 +100,11 @@ fn run(mut arguments: Vec<String>) -> Result<Vec<u8>, String> {
             mutate::mutate_as(number(seed)? as u64, kind, &read(model)?, &read(evidence)?).ok_or(
                 format!("the change {kind} does not apply; see mutate --kinds"),
             )
+        }
+        ["cases"] => Ok(cases().into_bytes()),
+        ["answers", file] => {
+            let text = String::from_utf8(read(file)?).map_err(|_| format!("{file}: not text"))?;
+            Ok(answers(&text, scratch)?.into_bytes())
         }
         ["bench"] => {
             bench(|line| println!("{line}"));

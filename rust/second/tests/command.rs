@@ -143,6 +143,21 @@ fn region_lines_are_those_stored() {
     assert!(stored.starts_with(&lines));
 }
 
+#[test]
+fn cases_and_answers() {
+    let text = answer(&["cases"], b"");
+    let printed = String::from_utf8(answer(&["answers", "-"], &text)).unwrap();
+    assert!(printed.starts_with("- line\n#"));
+    assert!(printed.contains("\n1,5,3,1: 0 1\n"));
+    assert!(printed.ends_with("9: 8\n"));
+    let lent = answer(&["answers", "-", "2"], b"- row\n1,1,1,1,0,0,0,0\n1,5,3,1\n");
+    assert_eq!(lent, b"- row\n1,5,3,1: 8\n");
+    assert_eq!(
+        second(&["answers", "-"], b"- no plan\n").status.code(),
+        Some(2)
+    );
+}
+
 /// A file of the folder plans/.
 fn plan(name: &str) -> String {
     let path = std::path::Path::new(env!("CARGO_MANIFEST_DIR")).join("../../plans");

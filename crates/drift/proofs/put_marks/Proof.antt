@@ -8,7 +8,8 @@ use mathlib.Core.Path.{_≡_, refl, sym, _∙_}
 use lib.ListN.{length, getD, length-set}
 use Rattle.graph.specs.Plan.{systemOfModel}
 use Rattle.graph.proofs.Models.{system-laws}
-use Rattle.drift.proofs.Verdict.{marks-written, size-states}
+use Rattle.survey.proofs.Tables.{size-states}
+use Rattle.drift.proofs.Verdict.{marks-written}
 use Rattle.drift.proofs.Lists.{marks-next}
 use Rattle.drift.proofs.put_marks.Statement.{statement}
 use Rattle.drift.proofs.put_marks.Tie as tie

@@ -5,7 +5,8 @@ use lib.ListN.{length}
 use borrow.Author.Needs.{needs}
 use Rattle.graph.specs.Plan.{systemOfModel}
 use Rattle.graph.proofs.Models.{system-laws}
-use Rattle.drift.proofs.Verdict.{kinds, forbids-by, told-unsafe, told-safe}
+use Rattle.evidence_writer.proofs.Verdict.{kinds, forbids-by}
+use Rattle.drift.proofs.Verdict.{told-unsafe, told-safe}
 use Rattle.drift.proofs.verdict_of.Statement.{statement}
 use Rattle.drift.proofs.verdict_of.Tie as tie
 

@@ -1,0 +1,68 @@
+-- What the output holds in the end.
+use Prim.Native.Nat.{ℕ, _+_, _≤_, _<_}
+use native.Mathlib.Omega.{arith}
+use mathlib.Core.Path.{_≡_, refl, sym, ap, _∙_}
+use mathlib.Core.Bool.{Bool, true, false}
+use mathlib.Core.List.{List, [], _∷_, _++_}
+use lib.ListN.{length, drop}
+use borrow.Author.Tests.{lt-ltb, le-ltb}
+use Rattle.theory.specs.Marked.{unsafe}
+use Rattle.theory.specs.Sheet.{ourSheet}
+use Rattle.number.specs.Number.{spellAll}
+use Rattle.model.specs.declared.Model.{Model}
+use Rattle.graph.specs.Plan.{systemOfModel}
+use Rattle.spelling.specs.Lays.{Lays}
+use Rattle.spelling.proofs.Lays.{lays-whole}
+use Rattle.evidence.specs.Ours.{ourSheetNumbers, ourTrailNumbers, ourEvidence}
+use Rattle.evidence_writer.specs.declared.Written.{Written}
+use Rattle.evidence_writer.specs.declared.Written.the-variants.{Safe, Unsafe, Refused}
+use Rattle.evidence_writer.specs.Written.{evidenceIn, verdictWith, writtenFor}
+
+-- no part of an output is lent: it stays
+pub none-lent : (xs out : List ℕ) → length xs ≡ 0 → xs ++ out ≡ out
+none-lent [] out e = refl
+none-lent (x ∷ xs) out e = absurd (omega arith)
+
+module _ (m : Model) where
+  pub trail-is : unsafe (systemOfModel m) ≡ true → spellAll (ourTrailNumbers m) ≡ ourEvidence m
+  unfolding ourEvidence
+  trail-is u = rw u refl
+
+  pub sheet-is : unsafe (systemOfModel m) ≡ false → spellAll (1 ∷ ourSheet (systemOfModel m)) ≡ ourEvidence m
+  unfolding ourEvidence ourSheetNumbers
+  sheet-is u = rw u refl
+
+  module _ {bs : List ℕ} (e : bs ≡ ourEvidence m) where
+    pub measured : {o o′ : List ℕ} {r : ℕ} → Lays o o′ 0 r bs → r ≡ length (ourEvidence m)
+    measured L = omega (arith, L .end, ap length e)
+
+    pub laid-in : {o o₁ o′ : List ℕ} {r : ℕ} → o₁ ≡ o → Lays o₁ o′ 0 r bs → r ≤ length o → o′ ≡ evidenceIn m o
+    unfolding evidenceIn
+    laid-in {o} {o₁} f L h =
+        let b : length (ourEvidence m) ≤ length o = omega (arith, measured L) in
+        simp (le-ltb (length o) (length (ourEvidence m)) b)
+        (lays-whole L (omega (arith, ap length f)) ∙ (ap (λ (l : List ℕ). l ++ drop (length l) o₁) e ∙ ap (λ (l : List ℕ). ourEvidence m ++ drop (length (ourEvidence m)) l) f))
+
+  pub left-out : {o o₁ : List ℕ} {r : ℕ} → o₁ ≡ o → r ≡ length (ourEvidence m) → length o < r → o₁ ≡ evidenceIn m o
+  unfolding evidenceIn
+  left-out {o} f e h = simp (lt-ltb (length o) (length (ourEvidence m)) (omega arith)) f
+
+-- ---- the answer
+
+module _ (bad : Bool) (need room : ℕ) where
+  pub with-short : room < need → Refused 9 ≡ verdictWith bad need room
+  unfolding verdictWith
+  with-short h = simp (lt-ltb room need h) refl
+
+  pub with-unsafe : need ≤ room → bad ≡ true → Unsafe need ≡ verdictWith bad need room
+  unfolding verdictWith
+  with-unsafe h b = simp (le-ltb room need h, b) refl
+
+  pub with-safe : need ≤ room → bad ≡ false → Safe need ≡ verdictWith bad need room
+  unfolding verdictWith
+  with-safe h b = simp (le-ltb room need h, b) refl
+
+pub written-as : (m : Model) (bad : Bool) (need room : ℕ) → unsafe (systemOfModel m) ≡ bad → need ≡ length (ourEvidence m)
+    → verdictWith bad need room ≡ writtenFor m room
+unfolding writtenFor
+written-as m bad need room u e = rw (u, e) refl

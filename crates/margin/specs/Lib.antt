@@ -1,0 +1,2 @@
+-- The limits that a jump leaves, clock by clock.
+pub mod Limits

@@ -1,0 +1,20 @@
+-- 01: "A reader over the lent evidence serves outside callers, giving each next number, or 1 or 2 and then staying at that number's first byte",
+-- and "the reader's is the number, and it then stands after it".
+use Prim.Native.Nat.{ℕ}
+use mathlib.Core.List.{List}
+use denote.Ref.{now}
+use Rattle.number.specs.declared.Number.{Number}
+use Rattle.number.specs.Number.{readNumber, onNumber}
+use Rattle.reader.specs.declared.Reader.{Reader}
+
+-- the offset after the number at an offset, or that offset where the number is refused
+unfoldable pub afterNumber : List ℕ → ℕ → ℕ
+afterNumber bs at = onNumber (readNumber bs at) (λ v to. to) (λ r. at)
+
+-- the next number, or its refusal
+abbrev pub nextNumber : Reader → Number
+nextNumber r = readNumber (now (r .bytes)) (r .at)
+
+-- the reader once that number is given
+abbrev pub advanced : Reader → Reader
+advanced r = record { bytes = r .bytes; at = afterNumber (now (r .bytes)) (r .at) }

@@ -1,0 +1,2 @@
+-- Our sheet's numbers, and how they are laid one after the other.
+pub mod Numbers

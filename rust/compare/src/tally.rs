@@ -1,0 +1,63 @@
+//! How often each answer came up.
+
+use std::collections::BTreeMap;
+use std::fmt;
+
+#[derive(Default)]
+pub struct Tally {
+    /// Safe, refused 1 to 8, unsafe.
+    judged: [u64; 10],
+    /// Passing sheets and trails, at 1 and 2.
+    passed: [u64; 3],
+    /// By the refusal.
+    refused: [u64; 15],
+    /// By the kind of evidence: pairs, and how many passed.
+    kinds: BTreeMap<&'static str, (u64, u64)>,
+}
+
+impl Tally {
+    pub fn judged(&mut self, answer: usize) {
+        self.judged[answer] += 1;
+    }
+
+    pub fn checked(&mut self, kind: &'static str, answer: Result<u32, u8>) {
+        let (pairs, passed) = self.kinds.entry(kind).or_default();
+        *pairs += 1;
+        match answer {
+            Ok(what) => {
+                self.passed[what as usize] += 1;
+                *passed += 1;
+            }
+            Err(refusal) => self.refused[usize::from(refusal)] += 1,
+        }
+    }
+
+    /// The pairs of a model and evidence.
+    pub fn pairs(&self) -> u64 {
+        self.kinds.values().map(|(pairs, _)| pairs).sum()
+    }
+}
+
+impl fmt::Display for Tally {
+    fn fmt(&self, f: &mut fmt::Formatter) -> fmt::Result {
+        let [safe, refused @ .., is_unsafe] = &self.judged;
+        writeln!(
+            f,
+            "models: safe {safe}, unsafe {is_unsafe}, refused 1 to 8 {refused:?}"
+        )?;
+        writeln!(
+            f,
+            "pairs: sheets passed {}, trails passed {}",
+            self.passed[1], self.passed[2]
+        )?;
+        for (refusal, count) in self.refused.iter().enumerate().skip(1) {
+            if refusal != usize::from(second::refusal::OUTPUT_TOO_SHORT) {
+                writeln!(f, "  refused {refusal}: {count}")?;
+            }
+        }
+        for (kind, (pairs, passed)) in &self.kinds {
+            writeln!(f, "  {kind}: {pairs}, passed {passed}")?;
+        }
+        Ok(())
+    }
+}

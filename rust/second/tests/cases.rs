@@ -1,0 +1,139 @@
+//! The cases of evidence, and the stored files of the proved programs.
+
+mod common;
+
+use common::{LOOP, LOOP_TRAIL};
+use second::brute::Brute;
+use second::cases::rules::{broken_rules, Rule, RULES};
+use second::cases::{answers, cases};
+use second::graph::Graph;
+use second::numbers::number_at;
+use second::program::{bytes_of_text, SCRATCH};
+use second::read_model;
+use std::collections::BTreeSet;
+
+/// A piece of evidence with its answer.
+type Piece = (Vec<u8>, String);
+
+/// The plans, each with its evidence.
+fn answered() -> Vec<(Vec<u8>, Vec<Piece>)> {
+    let text = cases();
+    let printed = answers(&text, SCRATCH).unwrap();
+    let mut printed = printed.lines();
+    let mut plans: Vec<(Vec<u8>, Vec<Piece>)> = Vec::new();
+    let mut lines = text.lines();
+    while let Some(line) = lines.next() {
+        let printed = printed.next().unwrap();
+        if line.starts_with('-') {
+            let model = bytes_of_text(lines.next().unwrap()).unwrap();
+            plans.push((model, Vec::new()));
+        } else if !line.starts_with('#') {
+            let answer = printed.strip_prefix(line).unwrap();
+            let answer = answer.strip_prefix(": ").unwrap().to_string();
+            let evidence = bytes_of_text(line).unwrap();
+            plans.last_mut().unwrap().1.push((evidence, answer));
+        }
+    }
+    plans
+}
+
+fn numbers_of(bytes: &[u8]) -> Vec<u32> {
+    let mut numbers = Vec::new();
+    let mut at = 0;
+    while at < bytes.len() {
+        let (number, next) = number_at(bytes, at).unwrap();
+        numbers.push(number);
+        at = next;
+    }
+    numbers
+}
+
+#[test]
+fn every_answer_comes_up() {
+    let plans = answered();
+    let pieces: Vec<_> = plans.iter().flat_map(|(_, pieces)| pieces).collect();
+    assert!(pieces.len() >= 60);
+    let seen: BTreeSet<&str> = pieces.iter().map(|(_, answer)| answer.as_str()).collect();
+    let wanted = (1..=14).filter(|&refusal| refusal != 9);
+    let mut wanted: BTreeSet<String> = wanted.map(|refusal| refusal.to_string()).collect();
+    wanted.extend(["0 1".into(), "0 2".into()]);
+    assert_eq!(seen, wanted.iter().map(String::as_str).collect());
+}
+
+#[test]
+fn the_cases_of_document_01() {
+    let mut pieces = answered().into_iter().flat_map(|(model, pieces)| {
+        pieces
+            .into_iter()
+            .map(move |(evidence, answer)| (model.clone(), evidence, answer))
+    });
+    let mut has = |model: &[u8], evidence: &[u8], answer: &str| {
+        pieces.any(|piece| piece == (model.to_vec(), evidence.to_vec(), answer.to_string()))
+    };
+    // In this order in the text.
+    assert!(has(&[1, 1, 1, 1, 0, 0, 0, 0], &[1, 5, 3, 1], "0 1"));
+    assert!(has(&[1, 1, 1, 1, 0, 0, 1, 0], &[2, 0], "0 2"));
+    assert!(has(&LOOP, &LOOP_TRAIL, "0 2"));
+    assert!(has(&LOOP, &LOOP_TRAIL[..33], "1"));
+    let mut other_end = LOOP_TRAIL;
+    other_end[33] = 2;
+    assert!(has(&LOOP, &other_end, "14"));
+}
+
+/// For each number of clocks, each rule is broken alone by some sheet.
+#[test]
+fn every_rule_is_broken_alone() {
+    let mut alone: BTreeSet<(usize, Rule)> = BTreeSet::new();
+    for (model, pieces) in answered() {
+        let Ok(model) = read_model(&model) else {
+            continue;
+        };
+        let clocks = model.clocks;
+        let graph = Graph::new(model);
+        for (evidence, _) in pieces.iter().filter(|(_, answer)| answer == "12") {
+            let broken = broken_rules(&graph, &numbers_of(evidence)[1..]);
+            assert!(!broken.is_empty());
+            if let [rule] = broken[..] {
+                alone.insert((clocks, rule));
+            }
+        }
+    }
+    let all = (1..=3).flat_map(|clocks| RULES.map(|rule| (clocks, rule)));
+    assert_eq!(alone, all.collect());
+}
+
+/// A passing sheet breaks no rule.
+#[test]
+fn no_rule_is_broken_by_what_passes() {
+    for (model, pieces) in answered() {
+        for (evidence, _) in pieces.iter().filter(|(_, answer)| answer == "0 1") {
+            let graph = Graph::new(read_model(&model).unwrap());
+            assert_eq!(broken_rules(&graph, &numbers_of(evidence)[1..]), []);
+        }
+    }
+}
+
+/// The brute-force route answers alike, but for scratch, which it knows not.
+#[test]
+fn the_brute_force_route_answers_alike() {
+    for (model, pieces) in answered() {
+        for (evidence, answer) in pieces.iter().filter(|(_, answer)| answer != "8") {
+            let brute = Brute::new(&model).and_then(|brute| brute.check(evidence));
+            let words = match brute {
+                Ok(kind) => format!("0 {kind}"),
+                Err(refusal) => refusal.to_string(),
+            };
+            assert_eq!(&words, answer, "{model:?} {evidence:?}");
+        }
+    }
+}
+
+/// The stored input of the proved program is these cases, its stored output
+/// this checker's answers.
+#[test]
+fn evidence_cases_are_those_stored() {
+    let stored = include_str!("../../../crates/evidence_cases/stdin");
+    assert_eq!(stored, cases());
+    let printed = include_str!("../../../crates/evidence_cases/stdout");
+    assert_eq!(printed, answers(stored, SCRATCH).unwrap());
+}
