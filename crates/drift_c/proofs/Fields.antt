@@ -1,11 +1,11 @@
 -- Every value of an answer fits its field.
-use Prim.Native.Nat.{ℕ, zero, suc, _+_, _*_, _≤_, zero-le}
+use Prim.Native.Nat.{ℕ, zero, suc, _+_, _*_, _%_, _^_, _≤_, zero-le}
 use native.Mathlib.Nat.{le-of-lt}
 use native.Mathlib.Omega.{arith}
-use mathlib.Core.Path.{_≡_, sym, subst, _∙_}
+use mathlib.Core.Path.{_≡_, refl, sym, _∙_}
 use mathlib.Core.Bool.{Bool, true, false, cond}
 use mathlib.Core.List.{List, [], _∷_}
-use lib.ListN.{getD}
+use lib.ListN.{length, getD}
 use lib.Dec.{eqb, ltb}
 use borrow.Author.Tests.{eqb-true, ltb-true}
 use Rattle.theory.specs.Below.{bit, count}
@@ -20,13 +20,22 @@ use Rattle.graph.specs.Plan.{systemOfModel}
 use Rattle.graph.specs.States.{states}
 use Rattle.graph.proofs.Models.{system-laws}
 use Rattle.successors.proofs.Room.{states-limit}
+use Rattle.number.specs.declared.Number.{Number}
+use Rattle.number.specs.declared.Number.the-variants as number
+use Rattle.number.specs.Number.{readNumber}
+use Rattle.number.proofs.Laws.{Sound, sound}
+use Rattle.evidence.specs.Ours.{ourEvidence}
+use Rattle.evidence_writer.specs.declared.Written.{Written}
+use Rattle.evidence_writer.specs.Written.{verdictWith, writtenFor}
+use Rattle.evidence_writer.proofs.Output.{evidence-most}
+use Rattle.drift.specs.Write.{told, writeAnswer}
 use Rattle.drift.specs.Answer.{Answer, answer}
 use Rattle.drift.specs.Call.{modelOf, statesOf, enough, refusal}
 use Rattle.drift.specs.Judge.{countOf, verdict, judged}
 use Rattle.drift.specs.Marks.{marksRefusal, marked}
 use Rattle.survey.proofs.Tables.{size-states}
 use Rattle.evidence_writer.proofs.Verdict.{steps-verdict}
-use Rattle.drift_c.specs.Words.{value, judgeWord, marksWord, checkWord, Fields}
+use Rattle.drift_c.specs.Words.{value, judgeWord, marksWord, checkWord, writeWord, numberWord, SmallValue, Fields, Room}
 
 module _ (m : Model) (ok : Lawful m) where
   count-small : countOf (systemOfModel m) ≤ states m
@@ -99,3 +108,50 @@ kind-word-is w k e = omega (arith, e)
 pub check-refused-is : (r : ℕ) → r ≡ checkWord (record { number = r; values = [] })
 unfolding checkWord
 check-refused-is r = omega arith
+
+pub written-word-is : (w b n : ℕ) → w ≡ b * 256 + n * 65536 → w ≡ writeWord (record { number = 0; values = b ∷ n ∷ [] })
+unfolding writeWord
+written-word-is w b n e = omega (arith, e)
+
+pub write-refused-is : (r : ℕ) → r ≡ writeWord (record { number = r; values = [] })
+unfolding writeWord
+write-refused-is r = omega arith
+
+-- the number of bytes fits
+pub write-room : (bytes lent : List ℕ) (room : ℕ) → Room (writeAnswer bytes lent room)
+unfolding writeAnswer answer told writtenFor verdictWith
+write-room bytes lent room =
+    record {
+      few = cond-ind Few (eqb (refusal bytes lent) 0)
+          (λ t. few (unsafe (systemOfModel (modelOf bytes))) (evidence-most (modelOf bytes) (accepted bytes lent (eqb-true _ _ t))))
+          (λ _. none (refusal bytes lent) (eqb (refusal bytes lent) 0));
+    }
+  where
+    Few : Answer → Type 0
+    Few a = value a 1 ≤ 2 ^ 40
+
+    none : (r : ℕ) (b : Bool) → Few (cond b (record { number = 0; values = [] }) (record { number = r; values = [] }))
+    none r true = zero-le
+    none r false = zero-le
+
+    few : (bad : Bool) → length (ourEvidence (modelOf bytes)) ≤ 2 ^ 40 → Few (told (verdictWith bad (length (ourEvidence (modelOf bytes))) room))
+    few bad h =
+        cond-ind (λ (w : Written). Few (told w)) (ltb room (length (ourEvidence (modelOf bytes)))) (λ _. zero-le)
+        (λ _. cond-ind (λ (w : Written). Few (told w)) bad (λ _. h) (λ _. h))
+
+-- ---- numbers
+
+pub value-word-is : (w v to : ℕ) → w ≡ v * 256 + to % 4294967296 * 4294967296 → w ≡ numberWord (number.Value v to)
+unfolding numberWord
+value-word-is w v to e = omega (arith, e)
+
+pub number-refused-is : (r : ℕ) → r ≡ numberWord (number.Refused r)
+unfolding numberWord
+number-refused-is r = refl
+
+pub small-value : (bs : List ℕ) (at : ℕ) → SmallValue (readNumber bs at)
+small-value bs at = by (readNumber bs at) (sound bs at)
+  where
+    by : (n : Number) → Sound bs at n → SmallValue n
+    by (number.Value v to) s = s .0
+    by (number.Refused r) s = refl

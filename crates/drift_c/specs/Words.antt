@@ -1,7 +1,10 @@
 -- Answers as one number each, made of fields. On a refusal the fields beside the number are 0.
 use mathlib.Core.List.{List}
-use Prim.Native.Nat.{ℕ, _+_, _*_, _^_, _≤_}
+use mathlib.Core.Path.{_≡_}
+use Prim.Native.Nat.{ℕ, _+_, _*_, _%_, _^_, _≤_, _<_}
 use lib.ListN.{getD}
+use Rattle.number.specs.declared.Number.{Number}
+use Rattle.number.specs.declared.Number.the-variants.{Value, Refused}
 use Rattle.drift.specs.Answer.{Answer}
 
 -- a value of an answer; 0 past the last
@@ -19,6 +22,24 @@ marksWord a = a .number + 2 ^ 16 * value a 0
 -- number + 2^8 · kind (1 sheet, 2 trail)
 unfoldable pub checkWord : Answer → ℕ
 checkWord a = a .number + 2 ^ 8 * value a 0
+
+-- number + 2^8 · verdict (0 safe, 1 unsafe) + 2^16 · bytes
+unfoldable pub writeWord : Answer → ℕ
+writeWord a = a .number + 2 ^ 8 * value a 0 + 2 ^ 16 * value a 1
+
+-- number + 2^8 · value + 2^32 · next, the offset after the number, of which a word has room for the lower 32 bits
+unfoldable pub numberWord : Number → ℕ
+numberWord (Value v to) = 2 ^ 8 * v + 2 ^ 32 * (to % 2 ^ 32)
+numberWord (Refused r) = r
+
+-- a value below 2^21 fits its field
+abbrev pub SmallValue : Number → Type 0
+SmallValue (Value v to) = v < 2 ^ 21
+SmallValue (Refused r) = r ≡ r
+
+-- the number of bytes fits its field
+pub record Room (a : Answer) : Type 0 where
+  pub few : value a 1 ≤ 2 ^ 40
 
 -- the values fit their fields
 pub record Fields (a : Answer) : Type 0 where

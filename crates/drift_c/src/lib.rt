@@ -7,10 +7,14 @@ ghost use Rattle.drift.specs.Call.{lengths, left};
 ghost use Rattle.drift.specs.Judge.{judged, told};
 ghost use Rattle.drift.specs.Marks.{marked, output, told as toldMarks};
 ghost use Rattle.drift.specs.Check.{checkAnswer, told as toldCheck};
-ghost use Rattle.drift_c.specs.Words.{judgeWord, marksWord, checkWord, Fields};
+ghost use Rattle.drift.specs.Write.{writeAnswer, writeOutput, told as toldWrite};
+ghost use Rattle.number.specs.Number.{readNumber};
+ghost use Rattle.drift_c.specs.Words.{judgeWord, marksWord, checkWord, writeWord, numberWord, Fields, Room, SmallValue};
 use drift::Evidence;
 use drift::Judgement;
 use drift::Marking;
+use drift::Written;
+use number::Number;
 
 // The fields of a verdict.
 fn verdict_word(verdict: u64, states: usize, count: usize) -> u64
@@ -48,6 +52,27 @@ fn check_word(answer: Evidence) -> u64
         Evidence::Sheet => 256,
         Evidence::Trail => 512,
         Evidence::Refused(number) => number as u64,
+    }
+}
+
+fn write_word(answer: Written) -> u64
+    requires { ⌜ Room (toldWrite answer) ⌝ }
+    ensures { λ r. ⌜ r ≡ writeWord (toldWrite answer) ⌝ }
+{
+    match answer {
+        Written::Safe(bytes) => bytes as u64 * 65536,
+        Written::Unsafe(bytes) => 256 + bytes as u64 * 65536,
+        Written::Refused(number) => number as u64,
+    }
+}
+
+fn number_word(answer: Number) -> u64
+    requires { ⌜ SmallValue answer ⌝ }
+    ensures { λ r. ⌜ r ≡ numberWord answer ⌝ }
+{
+    match answer {
+        Number::Value(value, next) => value as u64 * 256 + next as u64 % 4294967296 * 4294967296,
+        Number::Refused(number) => number as u64,
     }
 }
 
@@ -126,4 +151,42 @@ pub extern "C" fn drift_check_evidence(
 {
     let answer = drift::check_evidence(model, evidence, s1, s2, s3, s4);
     check_word(answer)
+}
+
+// number + 2^8 · verdict (0 safe, 1 unsafe) + 2^16 · bytes
+#[no_mangle]
+pub extern "C" fn drift_write_evidence(
+    model: &[u8],
+    s1: &mut [u16],
+    s2: &mut [u16],
+    s3: &mut [u16],
+    s4: &mut [u16],
+    out: &mut [u8],
+) -> u64
+    ensures { λ r. ⌜
+        r ≡ writeWord (writeAnswer (now (model .entry)) (lengths (now (s1 .entry)) (now (s2 .entry)) (now (s3 .entry)) (now (s4 .entry)))
+        (length (now (out .entry))))
+        ⌝ }
+    ensures { λ _. ⌜
+        now (out .exit)
+        ≡ writeOutput (now (model .entry)) (lengths (now (s1 .entry)) (now (s2 .entry)) (now (s3 .entry)) (now (s4 .entry))) (now (out .entry))
+        ⌝ }
+    ensures { λ _. ⌜
+        (now (s1 .exit) ≡ left (now (model .entry)) (lengths (now (s1 .entry)) (now (s2 .entry)) (now (s3 .entry)) (now (s4 .entry))) (now (s1 .entry)))
+        × (now (s2 .exit) ≡ left (now (model .entry)) (lengths (now (s1 .entry)) (now (s2 .entry)) (now (s3 .entry)) (now (s4 .entry))) (now (s2 .entry)))
+        × (now (s3 .exit) ≡ left (now (model .entry)) (lengths (now (s1 .entry)) (now (s2 .entry)) (now (s3 .entry)) (now (s4 .entry))) (now (s3 .entry)))
+        × (now (s4 .exit) ≡ left (now (model .entry)) (lengths (now (s1 .entry)) (now (s2 .entry)) (now (s3 .entry)) (now (s4 .entry))) (now (s4 .entry)))
+        ⌝ }
+{
+    let answer = drift::write_evidence(model, s1, s2, s3, s4, out);
+    write_word(answer)
+}
+
+// number + 2^8 · value + 2^32 · next
+#[no_mangle]
+pub extern "C" fn drift_next_number(bytes: &[u8], at: usize) -> u64
+    ensures { λ r. ⌜ r ≡ numberWord (readNumber (now (bytes .entry)) at) ⌝ }
+{
+    let answer = number::read(bytes, at);
+    number_word(answer)
 }
