@@ -1,14 +1,18 @@
--- Demand 3: "the evidence check passes exactly the evidence that 01 says; each accepted model has passing evidence of just one kind; ..; and a passing
--- sheet covers every widened run of at most K jumps with (K+1)e < D".
+-- Demand 3: "the evidence check passes exactly the evidence that 01 says; each accepted model has passing evidence of just one kind; what we write passes;
+-- and a passing sheet covers every widened run of at most K jumps with (K+1)e < D".
 --
 -- `bytes` spell an accepted model and each scratch slice is long enough: the call is refused by none of 1 to 8.
 use mathlib.Core.Path.{_≡_, refl, sym, ap, subst, _∙_}
-use mathlib.Core.Bool.{true, false, cond, true≢false}
+use mathlib.Core.Bool.{Bool, true, false, cond, true≢false}
 use mathlib.Core.Logic.{_↔_, _⊎_, inl, inr, ⊎-elim}
-use mathlib.Core.List.{List, [], _∷_}
+use mathlib.Core.List.{List, [], _∷_, _++_}
 use Prim.Native.Nat.{ℕ, _+_, _*_, _≤_, _<_}
+use native.Mathlib.Decide.{decLt}
 use native.Mathlib.Omega.{arith}
-use lib.ListN.{length, getD}
+use lib.ListN.{length, getD, take, drop}
+use lib.Seq.{take-append-seam}
+use borrow.Author.Tests.{lt-ltb, le-ltb}
+use Rattle.theory.specs.Below.{bit}
 use Rattle.theory.specs.Automaton.{Edge, Run}
 use Rattle.theory.specs.System.{System}
 use Rattle.theory.specs.Marked.{Marked, unsafe}
@@ -34,10 +38,14 @@ use Rattle.evidence.specs.Evidence.{SheetPasses, TrailPasses, checked}
 use Rattle.evidence.specs.Ours.{ourEvidence}
 use Rattle.evidence.proofs.Answers.{sheet-passes, trail-passes, refusal-above}
 use Rattle.evidence.proofs.Ours.{our-sheet, our-trail}
+use Rattle.evidence_writer.specs.declared.Written.the-variants as written
+use Rattle.evidence_writer.specs.Written.{evidenceIn, verdictWith, writtenFor}
 use Rattle.drift.specs.Answer.{Answer}
 use Rattle.drift.specs.Call.{modelOf, refusal}
 use Rattle.drift.specs.Check.{told, checkAnswer}
-use Rattle.drift.proofs.Calls.{accepted, check-done}
+use Rattle.drift.specs.Write.{writeAnswer, writeOutput}
+use Rattle.drift.specs.Write as toldWrite
+use Rattle.drift.proofs.Calls.{accepted, check-done, write-done, write-output}
 
 -- the answers "1 for a passing sheet, 2 for a passing trail"
 abbrev pub kindAnswer : ℕ → Answer
@@ -162,6 +170,55 @@ module _ (bytes lent : List ℕ) (taken : refusal bytes lent ≡ 0) where
   pub covers-nine : (shown : List ℕ) → SheetPasses m shown → (N : ℕ) → 0 < N
       → (gs : List Edge) (l : ℕ) (v : List ℕ) (t : ℕ) → length gs ≤ 9 → Run (automatonOf m) N 9 100 gs l v t → automatonOf m .forbidden l ≡ false
   covers-nine shown p N h = covers shown p 9 9 100 N (omega arith) h
+
+-- ---- "what we write passes"
+
+module _ (bytes lent out : List ℕ) where
+  abbrev ours : List ℕ
+  ours = ourEvidence (modelOf bytes)
+
+  -- with room for it, the writer answers the verdict and the length of our evidence, which fills the output from its first byte
+  pub writes : refusal bytes lent ≡ 0 → length ours ≤ length out
+      → (writeAnswer bytes lent (length out) ≡ record { number = 0; values = bit (unsafe (systemOfModel (modelOf bytes))) ∷ length ours ∷ [] })
+      × (writeOutput bytes lent out ≡ ours ++ drop (length ours) out)
+  unfolding toldWrite.told writtenFor verdictWith evidenceIn
+  writes taken h = (
+    write-done bytes lent taken (length out) ∙ simp (le-ltb (length out) (length ours) h) (by (unsafe (systemOfModel (modelOf bytes)))),
+    write-output bytes lent taken out ∙ simp (le-ltb (length out) (length ours) h) refl,
+  )
+    where
+      by : (bad : Bool) → toldWrite.told (cond bad (written.Unsafe (length ours)) (written.Safe (length ours))) ≡ record { number = 0; values = bit bad ∷ length ours ∷ [] }
+      by true = refl
+      by false = refl
+
+  -- 9 where there is no room for it, and the output stays as it was
+  pub writes-nothing : refusal bytes lent ≡ 0 → length out < length ours
+      → (writeAnswer bytes lent (length out) ≡ record { number = 9; values = [] }) × (writeOutput bytes lent out ≡ out)
+  unfolding toldWrite.told writtenFor verdictWith evidenceIn
+  writes-nothing taken h = (
+    write-done bytes lent taken (length out) ∙ simp (lt-ltb (length out) (length ours) h) refl,
+    write-output bytes lent taken out ∙ simp (lt-ltb (length out) (length ours) h) refl,
+  )
+
+  -- Where the writer returns 0, with a verdict (0 safe, 1 unsafe) and a number of bytes, as many first bytes of the output pass the check: a sheet where the
+  -- verdict is safe, a trail where it is unsafe; whatever the output and the scratch held before, and whichever scratch the check is lent.
+  pub written-passes : (lent′ : List ℕ) → refusal bytes lent ≡ 0 → refusal bytes lent′ ≡ 0 → writeAnswer bytes lent (length out) .number ≡ 0
+      → checkAnswer bytes (take (getD (writeAnswer bytes lent (length out) .values) 1 0) (writeOutput bytes lent out)) lent′
+      ≡ kindAnswer (getD (writeAnswer bytes lent (length out) .values) 0 0 + 1)
+  written-passes lent′ taken taken′ z = by (decLt (length out) (length ours))
+    where
+      kind : (bad : Bool) → cond bad 2 1 ≡ bit bad + 1
+      kind true = refl
+      kind false = refl
+
+      by : Dec (length out < length ours)
+          → checkAnswer bytes (take (getD (writeAnswer bytes lent (length out) .values) 1 0) (writeOutput bytes lent out)) lent′
+          ≡ kindAnswer (getD (writeAnswer bytes lent (length out) .values) 0 0 + 1)
+      by (yes h) = absurd (omega (arith, z, ap (λ (a : Answer). a .number) (writes-nothing taken h .0)))
+      by (no h) =
+          let (a, o) = writes taken (omega arith) in
+          rw (a, o, take-append-seam ours (drop (length ours) out))
+          (ours-passes bytes lent′ taken′ ∙ ap kindAnswer (kind (unsafe (systemOfModel (modelOf bytes)))))
 
 -- "e = 10 isn't": the condition fails, and `Tight.not-covered` has a plan, a passing sheet and a run at equality
 pub ten-is-not : (9 + 1) * 10 < 100 → ⊥
