@@ -1,5 +1,7 @@
 -- Demand 3.
 pub mod Demand3
+-- Beyond 01: safe for ever, unsafe for real.
+pub mod Forever
 -- 01's cases marked P hold.
 pub mod Bench
 -- The bound on drift is tight.
