@@ -20,8 +20,7 @@ put-trail-requires-2 : tie.Need-put-trail-requires-2
 put-trail-requires-2 c κs =
     let start = c .before .before .before .before .before .before .before .before .before .before .before .before .before .before .before .before .before .before .before .before .before .before .before .before .before .before in
     let R = start .pre .0 in
-    let kept = c .before .before .before .before .before .before .before .before .before .before .before .before .before .put-trail .kept in
-    (
+    let kept = c .before .before .before .before .before .before .before .before .before .before .before .before .before .put-trail .kept in (
       record {
         lawful = R .lawful;
         listed = R .listed;
