@@ -15,4 +15,6 @@ fn main() {
     println!("cargo:rustc-link-search=native={}", folder.display());
     println!("cargo:rustc-link-lib=static=drift_c");
     println!("cargo:rerun-if-changed={}/libdrift_c.a", folder.display());
+    // The tests compile C against the library.
+    println!("cargo:rustc-env=DRIFT_FOLDER={}", folder.display());
 }

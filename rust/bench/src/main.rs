@@ -11,8 +11,19 @@ use std::time::{Duration, Instant};
 const MODELS: u64 = 8;
 const REPEATS: usize = 15;
 
+/// The calls that are timed, in the order of the columns.
+const CALLS: [&str; 4] = ["judge", "marks", "evidence", "check"];
+
+/// Ours, then the second checker's, for each call.
+type Times = [[Duration; 2]; CALLS.len()];
+
+/// How many times as long ours takes, for each call.
+type Ratios = [f64; CALLS.len()];
+
 /// Clocks, ceiling, locations.
-const SIZES: [(usize, u8, usize); 7] = [
+type Size = (usize, u8, usize);
+
+const SIZES: [Size; 7] = [
     (2, 2, 4),
     (2, 4, 4),
     (3, 2, 4),
@@ -47,7 +58,7 @@ impl Buffers {
     fn new(states: usize) -> Buffers {
         Buffers {
             scratch: std::array::from_fn(|_| vec![0; states]),
-            output: vec![0; states],
+            output: vec![0; second::program::OUTPUT],
         }
     }
 
@@ -59,6 +70,11 @@ impl Buffers {
     fn marks(&mut self, model: &[u8]) -> usize {
         let [a, b, c, d] = &mut self.scratch;
         drift::marks(model, [a, b, c, d], &mut self.output).expect("an accepted model")
+    }
+
+    fn evidence(&mut self, model: &[u8]) -> drift::Written {
+        let [a, b, c, d] = &mut self.scratch;
+        drift::write_evidence(model, [a, b, c, d], &mut self.output).expect("it fits")
     }
 
     fn check(&mut self, model: &[u8], evidence: &[u8]) -> drift::Kind {
@@ -79,20 +95,42 @@ fn main() {
     println!(
         "a check is of the sheet where safe, else of the trail, as the second checker writes it"
     );
-    let columns = ["judge", "marks", "check"]
-        .map(|call| format!(" | {call:>9} {:>9} {:>6}", "second", "ratio"));
+    let columns = CALLS.map(|call| format!(" | {call:>9} {:>9} {:>6}", "second", "ratio"));
     println!("{:>7} {:>6}{}", "states", "class", columns.concat());
-    for (clocks, ceiling, locations) in SIZES {
-        // A loop that only drift can leave needs three locations.
-        let other = if locations > 2 {
-            Class::Drift
-        } else {
-            Class::Plain
-        };
-        for class in [Class::Safe, other] {
-            line(clocks, ceiling, locations, class);
-        }
+    let ratios = SIZES.map(|size| classes(size).map(|class| line(size, class)));
+    print_ratios(&ratios);
+}
+
+/// The class that is safe and one that is not.
+fn classes((_, _, locations): Size) -> [Class; 2] {
+    // A loop that only drift can leave needs three locations.
+    let other = if locations > 2 {
+        Class::Drift
+    } else {
+        Class::Plain
+    };
+    [Class::Safe, other]
+}
+
+/// All ratios, a line for each size.
+fn print_ratios(ratios: &[[Ratios; 2]; SIZES.len()]) {
+    println!();
+    println!("ratios: evidence and check are of a sheet where safe, else of a trail");
+    let columns = CALLS.map(|call| format!(" | {call:>9} {:>6}", ""));
+    println!("{:>7}{}", "", columns.concat());
+    let columns = CALLS.map(|_| format!(" | {:>9} {:>6}", "safe", "unsafe"));
+    println!("{:>7}{}", "states", columns.concat());
+    for (size, [safe, other]) in SIZES.iter().zip(ratios) {
+        let columns = safe.iter().zip(other);
+        let columns: String = columns
+            .map(|(safe, other)| format!(" | {safe:>9.2} {other:>6.2}"))
+            .collect();
+        println!("{:>7}{columns}", states_of(*size));
     }
+}
+
+fn states_of((clocks, ceiling, locations): Size) -> usize {
+    locations * Regions::of(clocks, ceiling).count()
 }
 
 /// The evidence that the second checker writes.
@@ -103,16 +141,20 @@ fn evidence_of(model: &[u8], lengths: [usize; 4]) -> Vec<u8> {
     out
 }
 
-/// Judge, marks and check of a model: ours, then the second checker's.
-fn times(buffers: &mut Buffers, model: &[u8], states: usize) -> [[Duration; 2]; 3] {
+/// All calls on a model.
+fn times(buffers: &mut Buffers, model: &[u8], states: usize) -> Times {
     let lengths = [states; 4];
     let evidence = evidence_of(model, lengths);
-    let mut output = vec![0; states];
+    let mut output = vec![0; second::program::OUTPUT];
     [
         both(|| buffers.judge(model), || second::judge(model, lengths)),
         both(
             || buffers.marks(model),
             || second::marks(model, lengths, &mut output),
+        ),
+        both(
+            || buffers.evidence(model),
+            || second::write_evidence(model, lengths, &mut output),
         ),
         both(
             || buffers.check(model, &evidence),
@@ -121,10 +163,12 @@ fn times(buffers: &mut Buffers, model: &[u8], states: usize) -> [[Duration; 2]; 
     ]
 }
 
-fn line(clocks: usize, ceiling: u8, locations: usize, class: Class) {
-    let states = locations * Regions::of(clocks, ceiling).count();
+/// The times of a size and class on one line, and their ratios.
+fn line(size: Size, class: Class) -> Ratios {
+    let (clocks, ceiling, locations) = size;
+    let states = states_of(size);
     let mut buffers = Buffers::new(states);
-    let mut sums = [[Duration::ZERO; 2]; 3];
+    let mut sums = Times::default();
     for seed in 0..MODELS {
         let model = generate_sized(seed, clocks, u32::from(ceiling), locations, class);
         for (sum, times) in sums.iter_mut().zip(times(&mut buffers, &model, states)) {
@@ -132,11 +176,14 @@ fn line(clocks: usize, ceiling: u8, locations: usize, class: Class) {
             sum[1] += times[1];
         }
     }
-    let mean = |time: Duration| time.as_secs_f64() * 1e6 / MODELS as f64;
-    let columns = sums.map(|[ours, theirs]| {
-        let (ours, theirs) = (mean(ours), mean(theirs));
-        format!(" | {ours:>9.1} {theirs:>9.1} {:>6.2}", ours / theirs)
-    });
+    let means = sums.map(|both| both.map(|time| time.as_secs_f64() * 1e6 / MODELS as f64));
+    let ratios = means.map(|[ours, theirs]| ours / theirs);
+    let columns: String = means
+        .iter()
+        .zip(ratios)
+        .map(|([ours, theirs], ratio)| format!(" | {ours:>9.1} {theirs:>9.1} {ratio:>6.2}"))
+        .collect();
     let class = format!("{class:?}").to_lowercase();
-    println!("{states:>7} {class:>6}{}", columns.concat());
+    println!("{states:>7} {class:>6}{columns}");
+    ratios
 }

@@ -1,6 +1,6 @@
 //! One call of each checker, with answers and memory compared.
 
-use crate::memory::Lent;
+use crate::memory::{Lent, Output};
 use second::random::Random;
 
 /// The number of states, where a call gets past refusal 8: the scratch is
@@ -35,11 +35,11 @@ pub fn marks_alike(
     room: usize,
     random: &mut Random,
 ) -> Result<(), String> {
-    let mut wanted_output: Vec<u8> = (0..room).map(|_| random.bits() as u8).collect();
+    let mut wanted_output = Output::new(random, room);
     let mut got_output = wanted_output.clone();
-    let wanted = second::marks(model, lent.lengths(), &mut wanted_output);
+    let wanted = second::marks(model, lent.lengths(), wanted_output.lent());
     let zeroed = past_eight(model, lent.lengths());
-    let call = |scratch: drift::Scratch| drift::marks(model, scratch, &mut got_output);
+    let call = |scratch: drift::Scratch| drift::marks(model, scratch, got_output.lent());
     let got = lent
         .run(call, zeroed)
         .map_err(|error| format!("marks: {error}"))?;
@@ -50,6 +50,61 @@ pub fn marks_alike(
         return Err("marks: outputs differ".into());
     }
     Ok(())
+}
+
+/// The verdict (true for unsafe) with the bytes written, or the refusal.
+pub fn write_alike(
+    model: &[u8],
+    lent: &Lent,
+    room: usize,
+    random: &mut Random,
+) -> Result<Result<(bool, Vec<u8>), u8>, String> {
+    let mut wanted_output = Output::new(random, room);
+    let mut got_output = wanted_output.clone();
+    let wanted = second::write_evidence(model, lent.lengths(), wanted_output.lent());
+    let zeroed = past_eight(model, lent.lengths());
+    let model_copy = model.to_vec();
+    let call =
+        |scratch: drift::Scratch| drift::write_evidence(&model_copy, scratch, got_output.lent());
+    let got = lent
+        .run(call, zeroed)
+        .map_err(|error| format!("evidence: wanted {wanted:?}, {error}"))?;
+    if wanted != got.map(|written| (written.is_unsafe, written.bytes)) {
+        return Err(format!("evidence: wanted {wanted:?}, got {got:?}"));
+    }
+    if wanted_output != got_output {
+        return Err("evidence: outputs differ".into());
+    }
+    if model != model_copy {
+        return Err("evidence: the model was changed".into());
+    }
+    Ok(got.map(|written| {
+        (
+            written.is_unsafe,
+            got_output.lent()[..written.bytes].to_vec(),
+        )
+    }))
+}
+
+/// All numbers that bytes spell, up to a refusal, at which both readers stay.
+pub fn numbers_alike(bytes: &[u8]) -> Result<(), String> {
+    let mut numbers = drift::Numbers::new(bytes);
+    let mut place = 0;
+    loop {
+        let wanted = second::number_at(bytes, place);
+        let next = wanted.map_or(place, |(_, next)| next);
+        // The second time at a refusal tells whether it stays.
+        for _ in 0..if wanted.is_ok() { 1 } else { 2 } {
+            let got = (numbers.number(), numbers.place());
+            if (wanted.map(|(value, _)| value), next) != got {
+                return Err(format!("number at {place}: wanted {wanted:?}, got {got:?}"));
+            }
+        }
+        if wanted.is_err() {
+            return Ok(());
+        }
+        place = next;
+    }
 }
 
 /// 1 or 2 for what passes, or the refusal.

@@ -1,23 +1,27 @@
 //! The proved library against the second checker, on generated models of all
 //! kinds and on evidence of all kinds, with scratch and output of random
-//! lengths and dirty contents. All memory is compared after each call.
+//! lengths and dirty contents. All memory is compared after each call, and
+//! what the library writes must pass its own check.
 //!
 //! Usage: compare COUNT SEED. The first difference is printed and saved.
 
 mod alike;
 mod memory;
 mod pieces;
+mod rows;
 mod tally;
 
-use alike::{check_alike, judge_alike, marks_alike};
-use memory::{length_near, Lent};
+use alike::{check_alike, judge_alike, marks_alike, numbers_alike, write_alike};
+use memory::{length_near, rooms, Lent};
 use pieces::{pieces, Others};
+use rows::long;
 use second::generate::{generate, KINDS};
 use second::random::Random;
 use std::process::ExitCode;
 use tally::Tally;
 
-/// Every so many cases one of the largest models is taken: it costs the most.
+/// Every so many cases one of the largest models is taken, since it costs the
+/// most; one with long evidence takes its other turns.
 const LARGEST_EVERY: u64 = 50;
 
 /// Where a difference is saved: the model, and the evidence if it is about one.
@@ -60,13 +64,13 @@ fn main() -> ExitCode {
 }
 
 fn model_of(seed: u64, case: u64) -> (&'static str, Vec<u8>) {
-    let mut at = case % KINDS.len() as u64;
-    if KINDS[at as usize] == "largest" && case % LARGEST_EVERY != at {
-        at = 0;
-    }
+    let at = case % KINDS.len() as u64;
     let kind = KINDS[at as usize];
-    let model = generate(seed.wrapping_mul(1_000_003).wrapping_add(case), kind);
-    (kind, model.expect("a known kind"))
+    let seed = seed.wrapping_mul(1_000_003).wrapping_add(case);
+    if kind == "largest" && case % LARGEST_EVERY != at {
+        return ("long", long(&mut Random::with_word(seed, "long")));
+    }
+    (kind, generate(seed, kind).expect("a known kind"))
 }
 
 /// Prints the bytes of a difference and saves them.
@@ -104,9 +108,18 @@ fn agree(
     tally.judged(judged);
     let room = length_near(random, states);
     marks_alike(model, &lent, room, random).map_err(about_model)?;
-    for (label, evidence) in pieces(model, random, others) {
+    let (asked, pieces) = pieces(model, random, others);
+    for room in rooms(random, asked) {
         let lent = Lent::near(random, states);
-        let checked = check_alike(model, &evidence, &lent);
+        let written = write_alike(model, &lent, room, random).map_err(about_model)?;
+        tally.written(&written);
+        if let Ok((is_unsafe, bytes)) = written {
+            passes(model, &bytes, is_unsafe, &Lent::enough(random, states))?;
+        }
+    }
+    for (label, evidence) in pieces {
+        let lent = Lent::near(random, states);
+        let checked = numbers_alike(&evidence).and_then(|()| check_alike(model, &evidence, &lent));
         tally.checked(
             label,
             checked.map_err(|what| Difference {
@@ -116,4 +129,17 @@ fn agree(
         );
     }
     Ok(())
+}
+
+/// What the library writes passes its check: a trail if unsafe, else a sheet.
+fn passes(model: &[u8], evidence: &[u8], is_unsafe: bool, lent: &Lent) -> Result<(), Difference> {
+    let wanted = if is_unsafe { 2 } else { 1 };
+    let checked = check_alike(model, evidence, lent).and_then(|answer| match answer {
+        Ok(kind) if kind == wanted => Ok(()),
+        _ => Err(format!("wanted kind {wanted}, got {answer:?}")),
+    });
+    checked.map_err(|what| Difference {
+        what: format!("written: {what}"),
+        evidence: Some(evidence.to_vec()),
+    })
 }

@@ -1,11 +1,11 @@
-//! Scratch lent for a call, and what must be left of it.
+//! Scratch and output lent for a call, and what must be left of them.
 
 use second::random::Random;
 
 /// The most that a slice has beyond what is asked for.
 const BEYOND: usize = 40;
 
-/// Numbers on each side of a lent slice that no call may touch.
+/// Numbers or bytes on each side of a lent slice that no call may touch.
 const MARGIN: usize = 8;
 
 /// Four dirty scratch slices, each with a margin around it.
@@ -23,11 +23,31 @@ pub fn length_near(random: &mut Random, asked: usize) -> usize {
     }
 }
 
+/// Lengths of an output for evidence of so many bytes: too short, just
+/// enough, longer. Any length where there is none.
+pub fn rooms(random: &mut Random, asked: usize) -> Vec<usize> {
+    if asked == 0 {
+        return vec![random.below(BEYOND)];
+    }
+    let shorter = if random.one_in(2) {
+        asked - 1
+    } else {
+        random.below(asked)
+    };
+    vec![shorter, asked, asked + 1 + random.below(BEYOND)]
+}
+
 fn dirty(random: &mut Random, length: usize) -> Vec<u16> {
     (0..length).map(|_| random.bits() as u16).collect()
 }
 
 impl Lent {
+    /// Slices of just so many numbers.
+    pub fn enough(random: &mut Random, states: usize) -> Lent {
+        let before = std::array::from_fn(|_| dirty(random, states + 2 * MARGIN));
+        Lent { before }
+    }
+
     /// Slices for so many states; some are shorter or longer.
     pub fn near(random: &mut Random, states: usize) -> Lent {
         let before = std::array::from_fn(|_| {
@@ -70,5 +90,26 @@ impl Lent {
         } else {
             Err("scratch is not as it should be".into())
         }
+    }
+}
+
+/// A dirty output with a margin around it.
+#[derive(Clone, PartialEq, Eq)]
+pub struct Output {
+    whole: Vec<u8>,
+}
+
+impl Output {
+    pub fn new(random: &mut Random, room: usize) -> Output {
+        let whole = (0..room + 2 * MARGIN)
+            .map(|_| random.bits() as u8)
+            .collect();
+        Output { whole }
+    }
+
+    /// The part that is lent.
+    pub fn lent(&mut self) -> &mut [u8] {
+        let end = self.whole.len() - MARGIN;
+        &mut self.whole[MARGIN..end]
     }
 }

@@ -43,19 +43,20 @@ impl Others {
     }
 }
 
-/// The pieces for a model; for one that is refused only a few, since its
-/// refusal comes first.
-pub fn pieces(model: &[u8], random: &mut Random, others: &mut Others) -> Vec<Piece> {
+/// The length of our evidence, and the pieces for a model; for one that is
+/// refused 0 and only a few pieces, since its refusal comes first.
+pub fn pieces(model: &[u8], random: &mut Random, others: &mut Others) -> (usize, Vec<Piece>) {
     let mut pieces = vec![
         ("another model's", others.pick(random)),
         ("noise", noise(random)),
         ("nearly noise", near_noise(random)),
     ];
     let Ok(read) = second::read_model(model) else {
-        return pieces;
+        return (0, pieces);
     };
     let graph = Graph::new(read);
     let ours = evidence_of(&graph).1;
+    let length = ours.len();
     others.keep(&ours);
     let passing = passing(random, &graph);
     push_damaged(
@@ -71,7 +72,7 @@ pub fn pieces(model: &[u8], random: &mut Random, others: &mut Others) -> Vec<Pie
     pieces.push(("another model's", others.pick(random)));
     pieces.push(("ours", ours));
     pieces.extend(passing);
-    pieces
+    (length, pieces)
 }
 
 /// Evidence that is not ours: it passes, or is a trail that at least replays.

@@ -3,10 +3,42 @@
 use std::collections::BTreeMap;
 use std::fmt;
 
+/// What was written of one kind.
+#[derive(Default)]
+struct Written {
+    count: u64,
+    /// With a number of more than one byte.
+    wide: u64,
+    /// The most bytes.
+    longest: usize,
+}
+
+impl Written {
+    fn add(&mut self, bytes: &[u8]) {
+        self.count += 1;
+        self.wide += u64::from(bytes.iter().any(|&byte| byte >= 0x80));
+        self.longest = bytes.len().max(self.longest);
+    }
+}
+
+impl fmt::Display for Written {
+    fn fmt(&self, f: &mut fmt::Formatter) -> fmt::Result {
+        write!(
+            f,
+            "{}, {} with a number of more than one byte, longest {} bytes",
+            self.count, self.wide, self.longest
+        )
+    }
+}
+
 #[derive(Default)]
 pub struct Tally {
     /// Safe, refused 1 to 8, unsafe.
     judged: [u64; 10],
+    /// Sheets and trails written.
+    written: [Written; 2],
+    /// Calls of the writer by the refusal.
+    unwritten: [u64; 10],
     /// Passing sheets and trails, at 1 and 2.
     passed: [u64; 3],
     /// By the refusal.
@@ -18,6 +50,13 @@ pub struct Tally {
 impl Tally {
     pub fn judged(&mut self, answer: usize) {
         self.judged[answer] += 1;
+    }
+
+    pub fn written(&mut self, answer: &Result<(bool, Vec<u8>), u8>) {
+        match answer {
+            Ok((is_unsafe, bytes)) => self.written[usize::from(*is_unsafe)].add(bytes),
+            Err(refusal) => self.unwritten[usize::from(*refusal)] += 1,
+        }
     }
 
     pub fn checked(&mut self, kind: &'static str, answer: Result<u32, u8>) {
@@ -45,6 +84,11 @@ impl fmt::Display for Tally {
             f,
             "models: safe {safe}, unsafe {is_unsafe}, refused 1 to 8 {refused:?}"
         )?;
+        let [sheets, trails] = &self.written;
+        writeln!(f, "sheets written: {sheets}")?;
+        writeln!(f, "trails written: {trails}")?;
+        let unwritten = &self.unwritten[1..];
+        writeln!(f, "not written, refused 1 to 9 {unwritten:?}")?;
         writeln!(
             f,
             "pairs: sheets passed {}, trails passed {}",

@@ -3,6 +3,12 @@
 //! answers and what the calls leave in the lent memory are as document 01
 //! says; the proofs are in the crate `drift` under crates/.
 
+mod numbers;
+#[cfg(test)]
+mod tests;
+
+pub use numbers::{next_number, Numbers};
+
 mod raw {
     extern "C" {
         pub fn drift_judge(
@@ -45,6 +51,21 @@ mod raw {
             d: *mut u16,
             d_length: usize,
         ) -> u64;
+        pub fn drift_write_evidence(
+            model: *const u8,
+            model_length: usize,
+            a: *mut u16,
+            a_length: usize,
+            b: *mut u16,
+            b_length: usize,
+            c: *mut u16,
+            c_length: usize,
+            d: *mut u16,
+            d_length: usize,
+            out: *mut u8,
+            out_length: usize,
+        ) -> u64;
+        pub fn drift_next_number(bytes: *const u8, bytes_length: usize, at: usize) -> u64;
     }
 }
 
@@ -61,6 +82,15 @@ pub struct Judgement {
     pub states: usize,
     /// Marked states if safe, steps of our trail if unsafe.
     pub count: usize,
+}
+
+/// The evidence at the front of an output.
+#[derive(Clone, Copy, Debug, PartialEq, Eq)]
+pub struct Written {
+    /// A trail if so, else a sheet.
+    pub is_unsafe: bool,
+    /// How many bytes it takes.
+    pub bytes: usize,
 }
 
 /// What passed the check of evidence.
@@ -156,4 +186,31 @@ pub fn check_evidence(model: &[u8], evidence: &[u8], scratch: Scratch) -> Result
         2 => Ok(Kind::Trail),
         kind => unreachable!("kind {kind}, where only 1 and 2 are proved possible"),
     }
+}
+
+/// Our sheet or trail for a plan, at the front of the output; the rest of the
+/// output stays as it is, and all of it on a refusal.
+pub fn write_evidence(model: &[u8], scratch: Scratch, out: &mut [u8]) -> Result<Written, Refusal> {
+    let [a, b, c, d] = scratch;
+    // SAFETY: as in `judge`.
+    let answer = accepted(unsafe {
+        raw::drift_write_evidence(
+            model.as_ptr(),
+            model.len(),
+            a.as_mut_ptr(),
+            a.len(),
+            b.as_mut_ptr(),
+            b.len(),
+            c.as_mut_ptr(),
+            c.len(),
+            d.as_mut_ptr(),
+            d.len(),
+            out.as_mut_ptr(),
+            out.len(),
+        )
+    })?;
+    Ok(Written {
+        is_unsafe: answer >> 8 & 0xff == 1,
+        bytes: (answer >> 16) as usize,
+    })
 }

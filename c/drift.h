@@ -1,0 +1,176 @@
+/* The drift checker for C callers: the functions of the static library
+ * drift_c, and what takes their answers apart.
+ *
+ * Words are those of document 01, plans, regions and evidence of the drift
+ * checker. Each slice is a pointer and a length in elements. Any bytes and
+ * any lengths may be lent. A pointer is never null, not even with length 0,
+ * and memory that is written to overlaps no other that is lent to the call.
+ *
+ * Scratch is four slices of S 16-bit numbers each, S being the number of
+ * states; more is allowed. A call past number 8 leaves their first S at zero
+ * and the rest untouched; earlier, untouched. Output is untouched on refusal.
+ *
+ * A call allocates nothing, keeps nothing and may run beside others on other
+ * memory. Its tables take some 400 KB of the stack, which matters to threads
+ * with small stacks. */
+#ifndef DRIFT_H
+#define DRIFT_H
+
+#include <stddef.h>
+#include <stdint.h>
+
+#ifdef __cplusplus
+extern "C" {
+#endif
+
+/* The most states that an accepted model has: scratch of this length is
+ * enough for every model. */
+#define DRIFT_MOST_STATES 15816
+
+/* The most bytes that a sheet of ours takes: its first number, and up to
+ * three bytes for each state. A trail of ours has no such bound here; where
+ * the output is too short for it, the writer returns 9. */
+#define DRIFT_MOST_SHEET_BYTES (1 + 3 * DRIFT_MOST_STATES)
+
+/* What a call returns: 0, or the number of the refusal. */
+enum drift_number {
+    DRIFT_OK = 0,
+    DRIFT_ENDS_TOO_SOON = 1,       /* bytes end too soon */
+    DRIFT_NUMBER_TOO_LONG = 2,     /* third byte has its top bit set */
+    DRIFT_BAD_HEADER = 3,          /* header number out of range */
+    DRIFT_BAD_LOCATION = 4,        /* location number out of range */
+    DRIFT_BAD_EDGE = 5,            /* edge number out of range, or low above high */
+    DRIFT_BYTES_REMAIN = 6,        /* bytes remain at the end */
+    DRIFT_CLOCK_UNRESET = 7,       /* a walk leaves a clock unreset */
+    DRIFT_SCRATCH_TOO_SHORT = 8,   /* a scratch slice is shorter than S */
+    DRIFT_OUTPUT_TOO_SHORT = 9,    /* output too short for the marks or evidence */
+    DRIFT_NO_EVIDENCE = 10,        /* evidence begins with neither 1 nor 2 */
+    DRIFT_BAD_SHEET_NUMBER = 11,   /* sheet number above 2S-1, or not 0 where not allowed */
+    DRIFT_SHEET_RULE_BROKEN = 12,  /* a sheet rule broken */
+    DRIFT_BAD_STEP = 13,           /* a trail step doesn't replay */
+    DRIFT_ENDS_ORDINARY = 14       /* trail ends in an ordinary location */
+};
+
+/* What passed the check of evidence. */
+enum drift_kind {
+    DRIFT_SHEET = 1,
+    DRIFT_TRAIL = 2
+};
+
+/* The verdict on the plan that the model's bytes spell. Refusals 1 to 8.
+ *
+ * The answer: number + 2^8 * verdict (0 safe, 1 unsafe) + 2^16 * S +
+ * 2^40 * count, the count being the in-states if safe, or the steps of our
+ * trail. See drift_is_unsafe, drift_states, drift_count. */
+uint64_t drift_judge(
+    const uint8_t *model, size_t model_length,
+    uint16_t *s1, size_t s1_length,
+    uint16_t *s2, size_t s2_length,
+    uint16_t *s3, size_t s3_length,
+    uint16_t *s4, size_t s4_length);
+
+/* Into the output's first S bytes a mark for each state, in state order: 1
+ * if it is in the marked set, else 0. The rest of the output is untouched.
+ * Refusals 1 to 9.
+ *
+ * The answer: number + 2^16 * S. See drift_states. */
+uint64_t drift_marks(
+    const uint8_t *model, size_t model_length,
+    uint16_t *s1, size_t s1_length,
+    uint16_t *s2, size_t s2_length,
+    uint16_t *s3, size_t s3_length,
+    uint16_t *s4, size_t s4_length,
+    uint8_t *out, size_t out_length);
+
+/* Our evidence for the plan, from the output's first byte: a sheet if it is
+ * safe, a trail if it is unsafe. The rest of the output is untouched.
+ * Refusals 1 to 9.
+ *
+ * The answer: number + 2^8 * verdict (0 safe, 1 unsafe) + 2^16 * bytes
+ * written. See drift_is_unsafe, drift_written. */
+uint64_t drift_write_evidence(
+    const uint8_t *model, size_t model_length,
+    uint16_t *s1, size_t s1_length,
+    uint16_t *s2, size_t s2_length,
+    uint16_t *s3, size_t s3_length,
+    uint16_t *s4, size_t s4_length,
+    uint8_t *out, size_t out_length);
+
+/* Whether evidence from anywhere passes for the plan: its bytes spell, with
+ * nothing after, a sheet that keeps the rules or a trail whose steps all
+ * replay and which ends in a forbidden location. Refusals 1 to 8 of the
+ * model, which leave the scratch untouched; then 1, 2, 6 and 10 to 14 of the
+ * evidence, which leave its first S at zero.
+ *
+ * The answer: number + 2^8 * kind (1 sheet, 2 trail). See drift_kind_of. */
+uint64_t drift_check_evidence(
+    const uint8_t *model, size_t model_length,
+    const uint8_t *evidence, size_t evidence_length,
+    uint16_t *s1, size_t s1_length,
+    uint16_t *s2, size_t s2_length,
+    uint16_t *s3, size_t s3_length,
+    uint16_t *s4, size_t s4_length);
+
+/* The number whose first byte stands at an offset, any offset. Refusals 1
+ * and 2; a reader then stays where it is. At the end of the bytes it is 1.
+ *
+ * The answer: number + 2^8 * value + 2^32 * next, the offset after the
+ * number, of which the word has room for the lower 32 bits. See drift_value,
+ * drift_next. */
+uint64_t drift_next_number(const uint8_t *bytes, size_t bytes_length, size_t at);
+
+/* The number that every call returns: 0, or the refusal, with which all other
+ * fields are 0. */
+static inline unsigned drift_number_of(uint64_t answer)
+{
+    return (unsigned)(answer & 0xff);
+}
+
+/* Of drift_judge and drift_write_evidence: 1 if unsafe, 0 if safe. */
+static inline int drift_is_unsafe(uint64_t answer)
+{
+    return (answer >> 8 & 0xff) == 1;
+}
+
+/* Of drift_judge and drift_marks: S. */
+static inline size_t drift_states(uint64_t answer)
+{
+    return (size_t)(answer >> 16 & 0xffffff);
+}
+
+/* Of drift_judge: the in-states if safe, the steps of our trail if unsafe. */
+static inline size_t drift_count(uint64_t answer)
+{
+    return (size_t)(answer >> 40);
+}
+
+/* Of drift_write_evidence: the number of bytes written. */
+static inline size_t drift_written(uint64_t answer)
+{
+    return (size_t)(answer >> 16);
+}
+
+/* Of drift_check_evidence: DRIFT_SHEET or DRIFT_TRAIL. */
+static inline unsigned drift_kind_of(uint64_t answer)
+{
+    return (unsigned)(answer >> 8 & 0xff);
+}
+
+/* Of drift_next_number: the number read, at most 2,097,151. */
+static inline uint32_t drift_value(uint64_t answer)
+{
+    return (uint32_t)(answer >> 8 & 0xffffff);
+}
+
+/* Of drift_next_number at an offset: the offset after the number. It lies one
+ * to three bytes on, which the lower 32 bits tell. Not for a refusal. */
+static inline size_t drift_next(uint64_t answer, size_t at)
+{
+    return at + (uint32_t)((uint32_t)(answer >> 32) - (uint32_t)at);
+}
+
+#ifdef __cplusplus
+}
+#endif
+
+#endif

@@ -1,0 +1,85 @@
+/* Judges the loop plan of document 01, writes its evidence, checks that, and
+ * reads it number by number.
+ *
+ *     cc -I c -o example c/example.c libdrift_c.a
+ */
+#include "drift.h"
+
+#include <stdio.h>
+#include <stdlib.h>
+
+/* Enough for this plan of 132 states. */
+#define STATES 132
+#define ROOM 256
+
+/* Clean with perfect clocks, unsafe under drift. */
+static const uint8_t plan[] = {
+    1, 2, 2, 4, 4, 0,                   /* mark, clocks, ceiling, locations, edges, start */
+    0, 0, 0, 0, 0, 0, 0, 0, 0, 1, 0, 0, /* kind and stay fields of each location */
+    0, 1, 2, 1, 1, 1, 1,                /* from, to, reset mask, low and high of each clock */
+    1, 2, 1, 0, 2, 0, 2,
+    2, 1, 2, 0, 2, 2, 2,
+    2, 3, 0, 0, 0, 2, 2
+};
+
+static uint16_t s1[STATES], s2[STATES], s3[STATES], s4[STATES];
+static uint8_t evidence[ROOM];
+
+/* An answer that is no refusal. */
+static uint64_t accepted(uint64_t answer)
+{
+    unsigned number = drift_number_of(answer);
+    if (number != DRIFT_OK) {
+        printf("refused %u\n", number);
+        exit(EXIT_FAILURE);
+    }
+    return answer;
+}
+
+static void judge(void)
+{
+    uint64_t answer = accepted(drift_judge(
+        plan, sizeof plan, s1, STATES, s2, STATES, s3, STATES, s4, STATES));
+    int is_unsafe = drift_is_unsafe(answer);
+    printf("verdict %s\n", is_unsafe ? "unsafe" : "safe");
+    printf("states %zu\n", drift_states(answer));
+    printf("%s %zu\n", is_unsafe ? "steps" : "in", drift_count(answer));
+}
+
+/* The number of bytes written. */
+static size_t write_evidence(void)
+{
+    uint64_t answer = accepted(drift_write_evidence(
+        plan, sizeof plan, s1, STATES, s2, STATES, s3, STATES, s4, STATES, evidence, ROOM));
+    printf("bytes %zu\n", drift_written(answer));
+    return drift_written(answer);
+}
+
+static void check(size_t length)
+{
+    uint64_t answer = accepted(drift_check_evidence(
+        plan, sizeof plan, evidence, length, s1, STATES, s2, STATES, s3, STATES, s4, STATES));
+    printf("passes %s\n", drift_kind_of(answer) == DRIFT_SHEET ? "sheet" : "trail");
+}
+
+static void read_numbers(size_t length)
+{
+    size_t at = 0;
+    printf("numbers");
+    while (at < length) {
+        uint64_t answer = accepted(drift_next_number(evidence, length, at));
+        printf(" %lu", (unsigned long)drift_value(answer));
+        at = drift_next(answer, at);
+    }
+    printf("\n");
+}
+
+int main(void)
+{
+    size_t length;
+    judge();
+    length = write_evidence();
+    check(length);
+    read_numbers(length);
+    return EXIT_SUCCESS;
+}

@@ -1,0 +1,100 @@
+//! Numbers read one by one from lent bytes.
+
+use crate::{accepted, raw, Refusal};
+
+/// The number that begins at an offset, and the offset after it; refusal 1
+/// or 2 where there is none.
+pub fn next_number(bytes: &[u8], at: usize) -> Result<(u32, usize), Refusal> {
+    // SAFETY: the pointer comes with the length of its slice; the offset may
+    // be any.
+    let word = accepted(unsafe { raw::drift_next_number(bytes.as_ptr(), bytes.len(), at) })?;
+    // The word has room for the lower 32 bits of the offset. It lies one to
+    // three bytes on, which those bits tell.
+    let length = ((word >> 32) as u32).wrapping_sub(at as u32);
+    Ok(((word >> 8) as u32 & 0xff_ffff, at + length as usize))
+}
+
+/// A reader over lent bytes. It is no `Iterator`, since it does not end: past
+/// the last number it gives refusal 1 as often as it is asked.
+#[derive(Clone, Debug)]
+pub struct Numbers<'a> {
+    bytes: &'a [u8],
+    at: usize,
+}
+
+impl<'a> Numbers<'a> {
+    pub fn new(bytes: &'a [u8]) -> Numbers<'a> {
+        Numbers { bytes, at: 0 }
+    }
+
+    /// The next number, after which the reader then stands. A refusal, 1 or
+    /// 2, leaves it at that number's first byte.
+    pub fn number(&mut self) -> Result<u32, Refusal> {
+        let (value, next) = next_number(self.bytes, self.at)?;
+        self.at = next;
+        Ok(value)
+    }
+
+    /// The offset of the next number.
+    pub fn place(&self) -> usize {
+        self.at
+    }
+
+    /// Whether all bytes are read: what tells an end from bytes that end too
+    /// soon, both 1.
+    pub fn at_end(&self) -> bool {
+        self.at == self.bytes.len()
+    }
+}
+
+#[cfg(test)]
+mod tests {
+    use super::*;
+
+    #[test]
+    fn padding_is_allowed() {
+        assert_eq!(next_number(&[5], 0), Ok((5, 1)));
+        assert_eq!(next_number(&[133, 0], 0), Ok((5, 2)));
+        assert_eq!(next_number(&[133, 128, 0], 0), Ok((5, 3)));
+        assert_eq!(next_number(&[9, 255, 255, 127], 1), Ok(((1 << 21) - 1, 4)));
+    }
+
+    #[test]
+    fn refusals() {
+        assert_eq!(next_number(&[], 0), Err(1));
+        assert_eq!(next_number(&[5], 1), Err(1));
+        assert_eq!(next_number(&[5], usize::MAX), Err(1));
+        assert_eq!(next_number(&[133, 128], 0), Err(1));
+        assert_eq!(next_number(&[133, 128, 128], 0), Err(2));
+        assert_eq!(next_number(&[133, 128, 128, 0], 0), Err(2));
+    }
+
+    #[test]
+    fn numbers_one_by_one() {
+        let mut numbers = Numbers::new(&[7, 133, 0, 255, 255, 127]);
+        for (value, place) in [(7, 1), (5, 3), ((1 << 21) - 1, 6)] {
+            assert!(!numbers.at_end());
+            assert_eq!(numbers.number(), Ok(value));
+            assert_eq!(numbers.place(), place);
+        }
+        assert!(numbers.at_end());
+    }
+
+    #[test]
+    fn a_refusal_leaves_the_reader_in_place() {
+        for (rest, refusal) in [
+            (&[] as &[u8], 1),
+            (&[128, 128], 1),
+            (&[128, 128, 128, 0], 2),
+        ] {
+            let bytes = [&[7], rest].concat();
+            let mut numbers = Numbers::new(&bytes);
+            assert_eq!(numbers.number(), Ok(7));
+            for _ in 0..2 {
+                assert_eq!(numbers.number(), Err(refusal));
+                assert_eq!(numbers.place(), 1);
+                assert_eq!(numbers.at_end(), rest.is_empty());
+            }
+        }
+    }
+}

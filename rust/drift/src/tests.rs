@@ -1,0 +1,133 @@
+//! The calls on plans of document 01's bench, with what they leave.
+
+use super::*;
+
+/// The loop plan: safe with perfect clocks only.
+const LOOP: [u8; 46] = [
+    1, 2, 2, 4, 4, 0, //
+    0, 0, 0, 0, 0, 0, 0, 0, 0, 1, 0, 0, //
+    0, 1, 2, 1, 1, 1, 1, //
+    1, 2, 1, 0, 2, 0, 2, //
+    2, 1, 2, 0, 2, 2, 2, //
+    2, 3, 0, 0, 0, 2, 2,
+];
+const LOOP_STATES: usize = 132;
+
+/// Its trail as we write it.
+const LOOP_TRAIL: [u8; 42] = [
+    2, 8, 0, 0, 1, 0, 3, 0, 0, 2, 1, 9, 0, 0, 0, 0, 1, 1, 0, 0, 1, 2, 0, 3, 1, 1, 1, 1, 6, 0, 1, 1,
+    1, 2, 0, 0, 0, 0, 1, 1, 1, 3,
+];
+
+/// One clock, ceiling 1, one ordinary location: three states in a row.
+const ROW: [u8; 8] = [1, 1, 1, 1, 0, 0, 0, 0];
+const ROW_SHEET: [u8; 4] = [1, 5, 3, 1];
+
+/// The same with a forbidden location.
+const FORBIDDEN: [u8; 8] = [1, 1, 1, 1, 0, 0, 1, 0];
+
+/// What lent memory holds beforehand.
+const DIRT: u8 = 0xa5;
+
+/// So many numbers of each scratch slice are beyond what a plan needs.
+const SPARE: usize = 5;
+
+/// Dirty scratch of so many numbers each.
+fn dirty(length: usize) -> [Vec<u16>; 4] {
+    std::array::from_fn(|_| vec![DIRT.into(); length])
+}
+
+fn lend(scratch: &mut [Vec<u16>; 4]) -> Scratch<'_> {
+    scratch.each_mut().map(|slice| &mut slice[..])
+}
+
+/// An answer, the output afterwards, and how many first numbers of each
+/// scratch slice are zero; the rest must be as before.
+type Left = (Result<Written, Refusal>, Vec<u8>, usize);
+
+fn write(model: &[u8], length: usize, room: usize) -> Left {
+    let mut scratch = dirty(length);
+    let mut out = vec![DIRT; room];
+    let answer = write_evidence(model, lend(&mut scratch), &mut out);
+    let zeros = scratch[0].iter().take_while(|&&number| number == 0).count();
+    for slice in &scratch {
+        assert!(slice[..zeros].iter().all(|&number| number == 0));
+        assert!(slice[zeros..].iter().all(|&number| number == DIRT.into()));
+    }
+    (answer, out, zeros)
+}
+
+/// The evidence is written where there is room for it, and 9 comes otherwise.
+fn writes(model: &[u8], states: usize, is_unsafe: bool, evidence: &[u8]) {
+    let bytes = evidence.len();
+    for room in 0..bytes + SPARE {
+        let (answer, out) = if room < bytes {
+            (Err(9), vec![DIRT; room])
+        } else {
+            let rest = vec![DIRT; room - bytes];
+            (Ok(Written { is_unsafe, bytes }), [evidence, &rest].concat())
+        };
+        assert_eq!(write(model, states + SPARE, room), (answer, out, states));
+    }
+}
+
+#[test]
+fn a_sheet_is_written() {
+    writes(&ROW, 3, false, &ROW_SHEET);
+}
+
+#[test]
+fn a_trail_is_written() {
+    writes(&FORBIDDEN, 3, true, &[2, 0]);
+    writes(&LOOP, LOOP_STATES, true, &LOOP_TRAIL);
+}
+
+#[test]
+fn what_is_written_passes() {
+    let mut scratch = dirty(LOOP_STATES);
+    let mut out = [DIRT; 64];
+    for (model, kind) in [
+        (&ROW[..], Kind::Sheet),
+        (&FORBIDDEN, Kind::Trail),
+        (&LOOP, Kind::Trail),
+    ] {
+        let written = write_evidence(model, lend(&mut scratch), &mut out).unwrap();
+        let evidence = &out[..written.bytes];
+        assert_eq!(
+            check_evidence(model, evidence, lend(&mut scratch)),
+            Ok(kind)
+        );
+        assert_eq!(written.is_unsafe, kind == Kind::Trail);
+    }
+}
+
+#[test]
+fn early_refusals_touch_nothing() {
+    let untouched = vec![DIRT; 64];
+    let cases = [
+        (&LOOP[..45], LOOP_STATES, 1),
+        (&[133, 128, 128], 0, 2),
+        (&[&LOOP[..], &[0]].concat(), LOOP_STATES, 6),
+        (&LOOP, LOOP_STATES - 1, 8),
+    ];
+    for (model, length, refusal) in cases {
+        assert_eq!(
+            write(model, length, 64),
+            (Err(refusal), untouched.clone(), 0)
+        );
+    }
+}
+
+#[test]
+fn the_trail_carries_the_judged_steps() {
+    let judgement = Judgement {
+        is_unsafe: true,
+        states: LOOP_STATES,
+        count: 8,
+    };
+    let mut scratch = dirty(LOOP_STATES);
+    assert_eq!(judge(&LOOP, lend(&mut scratch)), Ok(judgement));
+    let mut numbers = Numbers::new(&LOOP_TRAIL);
+    assert_eq!(numbers.number(), Ok(2));
+    assert_eq!(numbers.number(), Ok(judgement.count as u32));
+}
