@@ -119,6 +119,13 @@ uint64_t drift_check_evidence(
  * drift_next. */
 uint64_t drift_next_number(const uint8_t *bytes, size_t bytes_length, size_t at);
 
+/* Beyond 01: how slight a drift is harmless for ever if the plan is safe.
+ * Every drift below 1/A of a unit is, A being the margin. Refusals 1 to 7.
+ *
+ * The answer: number + 2^16 * S + 2^40 * A. See drift_states,
+ * drift_margin_of. */
+uint64_t drift_margin(const uint8_t *model, size_t model_length);
+
 /* The number that every call returns: 0, or the refusal, with which all other
  * fields are 0. */
 static inline unsigned drift_number_of(uint64_t answer)
@@ -132,7 +139,13 @@ static inline int drift_is_unsafe(uint64_t answer)
     return (answer >> 8 & 0xff) == 1;
 }
 
-/* Of drift_judge and drift_marks: S. */
+/* Of drift_margin: A. */
+static inline uint32_t drift_margin_of(uint64_t answer)
+{
+    return (uint32_t)(answer >> 40);
+}
+
+/* Of drift_judge, drift_marks and drift_margin: S. */
 static inline size_t drift_states(uint64_t answer)
 {
     return (size_t)(answer >> 16 & 0xffffff);

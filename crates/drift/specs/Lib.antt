@@ -12,3 +12,5 @@ pub mod Marks
 pub mod Check
 -- The evidence writer.
 pub mod Write
+-- How slight a drift is harmless for ever.
+pub mod Margin

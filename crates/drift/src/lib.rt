@@ -15,6 +15,7 @@ ghost use Rattle.drift.specs.Call.{lengths, enough, left};
 ghost use Rattle.drift.specs.Judge.{verdict, judged, told};
 ghost use Rattle.drift.specs.Marks.{short, marksIn, marked, marksOf, output, told as toldMarks};
 ghost use Rattle.drift.specs.Check.{checkAnswer, told as toldCheck};
+ghost use Rattle.drift.specs.Margin.{marginAnswer, told as toldMargin};
 ghost use Rattle.drift.specs.Write.{writeAnswer, writeOutput, told as toldWrite};
 pub use evidence::Evidence;
 pub use evidence_writer::Written;
@@ -30,6 +31,12 @@ pub enum Judgement {
 // That the marks are written, with the number of states.
 pub enum Marking {
     Marked(usize),
+    Refused(u8),
+}
+
+// The number of states, and a number A: every drift e/D below 1/A is harmless for ever if the plan is safe.
+pub enum Tolerance {
+    Bound(usize, u32),
     Refused(u8),
 }
 
@@ -325,4 +332,20 @@ pub fn write_evidence(
         return write_model(m, &mut a[..s], &mut b[..s], &mut c[..s], &mut d[..s], out);
     }
     Written::Refused(8)
+}
+
+// ---- The margin.
+
+// Beyond 01: S, and the number A of the plan that the bytes spell, such that every drift e/D below 1/A is harmless for ever if the plan is safe; or a
+// refusal, 1 to 7. It needs no scratch.
+pub fn margin(bytes: &[u8]) -> Tolerance
+    ensures { λ r. ⌜ toldMargin r ≡ marginAnswer (now (bytes .entry)) ⌝ }
+{
+    let read = model::read_model(bytes);
+    let refusal = read.refusal;
+    if refusal != 0 {
+        return Tolerance::Refused(refusal);
+    }
+    let m = read.model;
+    Tolerance::Bound(graph::state_count(m), margin::margin(m))
 }

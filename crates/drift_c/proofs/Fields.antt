@@ -13,10 +13,12 @@ use Rattle.theory.specs.System.{System, Laws}
 use Rattle.theory.specs.Marked.{marks, unsafe}
 use Rattle.theory.specs.Trail.{trailSteps}
 use Rattle.theory.proofs.Below.{bit-le, count-le, cond-ind}
+use Rattle.model.specs.Accept.{readModel}
 use Rattle.model.specs.declared.Model.{Model}
 use Rattle.model.specs.Model.{Lawful}
+use Rattle.model.proofs.Accepted.{accepted-lawful}
 use Rattle.drift.proofs.Calls.{accepted}
-use Rattle.graph.specs.Plan.{systemOfModel}
+use Rattle.graph.specs.Plan.{automatonOf, systemOfModel}
 use Rattle.graph.specs.States.{states}
 use Rattle.graph.proofs.Models.{system-laws}
 use Rattle.successors.proofs.Room.{states-limit}
@@ -29,13 +31,16 @@ use Rattle.evidence_writer.specs.declared.Written.{Written}
 use Rattle.evidence_writer.specs.Written.{verdictWith, writtenFor}
 use Rattle.evidence_writer.proofs.Output.{evidence-most}
 use Rattle.drift.specs.Write.{told, writeAnswer}
+use Rattle.robust.specs.Margin.{margin}
+use Rattle.robust_models.proofs.Models.{margin-uniform}
+use Rattle.drift.specs.Margin.{marginAnswer}
 use Rattle.drift.specs.Answer.{Answer, answer}
 use Rattle.drift.specs.Call.{modelOf, statesOf, enough, refusal}
 use Rattle.drift.specs.Judge.{countOf, verdict, judged}
 use Rattle.drift.specs.Marks.{marksRefusal, marked}
 use Rattle.survey.proofs.Tables.{size-states}
 use Rattle.evidence_writer.proofs.Verdict.{steps-verdict}
-use Rattle.drift_c.specs.Words.{value, judgeWord, marksWord, checkWord, writeWord, numberWord, SmallValue, Fields, Room}
+use Rattle.drift_c.specs.Words.{value, judgeWord, marksWord, checkWord, writeWord, numberWord, marginWord, SmallValue, Fields, Room}
 
 module _ (m : Model) (ok : Lawful m) where
   count-small : countOf (systemOfModel m) ≤ states m
@@ -155,3 +160,27 @@ small-value bs at = by (readNumber bs at) (sound bs at)
     by : (n : Number) → Sound bs at n → SmallValue n
     by (number.Value v to) s = s .0
     by (number.Refused r) s = refl
+
+-- ---- the margin
+
+pub margin-fields : (bytes : List ℕ) → Fields (marginAnswer bytes)
+unfolding marginAnswer answer
+margin-fields bytes =
+    record {
+      fit = λ i. cond-ind (λ (a : Answer). value a i ≤ 65535) (eqb (readModel bytes .refusal) 0)
+          (λ t. few (accepted-lawful bytes (eqb-true _ _ t)) i)
+          (λ _. zero-le);
+    }
+  where
+    few : Lawful (modelOf bytes) → (i : ℕ) → getD (statesOf bytes ∷ margin (automatonOf (modelOf bytes)) (modelOf bytes .locations) ∷ []) i 0 ≤ 65535
+    few ok zero = omega (arith, states-limit ok)
+    few ok (suc zero) = omega (arith, margin-uniform (modelOf bytes) ok)
+    few ok (suc (suc i)) = zero-le
+
+pub bound-word-is : (w s a : ℕ) → w ≡ s * 65536 + a * 1099511627776 → w ≡ marginWord (record { number = 0; values = s ∷ a ∷ [] })
+unfolding marginWord
+bound-word-is w s a e = omega (arith, e)
+
+pub margin-refused-is : (r : ℕ) → r ≡ marginWord (record { number = r; values = [] })
+unfolding marginWord
+margin-refused-is r = omega arith

@@ -27,6 +27,10 @@ checkWord a = a .number + 2 ^ 8 * value a 0
 unfoldable pub writeWord : Answer → ℕ
 writeWord a = a .number + 2 ^ 8 * value a 0 + 2 ^ 16 * value a 1
 
+-- number + 2^16 · S + 2^40 · A
+unfoldable pub marginWord : Answer → ℕ
+marginWord a = a .number + 2 ^ 16 * value a 0 + 2 ^ 40 * value a 1
+
 -- number + 2^8 · value + 2^32 · next, the offset after the number, of which a word has room for the lower 32 bits
 unfoldable pub numberWord : Number → ℕ
 numberWord (Value v to) = 2 ^ 8 * v + 2 ^ 32 * (to % 2 ^ 32)

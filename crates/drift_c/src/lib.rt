@@ -7,12 +7,14 @@ ghost use Rattle.drift.specs.Call.{lengths, left};
 ghost use Rattle.drift.specs.Judge.{judged, told};
 ghost use Rattle.drift.specs.Marks.{marked, output, told as toldMarks};
 ghost use Rattle.drift.specs.Check.{checkAnswer, told as toldCheck};
+ghost use Rattle.drift.specs.Margin.{marginAnswer, told as toldMargin};
 ghost use Rattle.drift.specs.Write.{writeAnswer, writeOutput, told as toldWrite};
 ghost use Rattle.number.specs.Number.{readNumber};
-ghost use Rattle.drift_c.specs.Words.{judgeWord, marksWord, checkWord, writeWord, numberWord, Fields, Room, SmallValue};
+ghost use Rattle.drift_c.specs.Words.{judgeWord, marksWord, checkWord, writeWord, numberWord, marginWord, Fields, Room, SmallValue};
 use drift::Evidence;
 use drift::Judgement;
 use drift::Marking;
+use drift::Tolerance;
 use drift::Written;
 use number::Number;
 
@@ -63,6 +65,18 @@ fn write_word(answer: Written) -> u64
         Written::Safe(bytes) => bytes as u64 * 65536,
         Written::Unsafe(bytes) => 256 + bytes as u64 * 65536,
         Written::Refused(number) => number as u64,
+    }
+}
+
+fn margin_word(answer: Tolerance) -> u64
+    requires { ⌜ Fields (toldMargin answer) ⌝ }
+    ensures { λ r. ⌜ r ≡ marginWord (toldMargin answer) ⌝ }
+{
+    match answer {
+        Tolerance::Bound(states, margin) => {
+            states as u64 * 65536 + margin as u64 * 1099511627776
+        }
+        Tolerance::Refused(number) => number as u64,
     }
 }
 
@@ -189,4 +203,13 @@ pub extern "C" fn drift_next_number(bytes: &[u8], at: usize) -> u64
 {
     let answer = number::read(bytes, at);
     number_word(answer)
+}
+
+// number + 2^16 · S + 2^40 · A
+#[no_mangle]
+pub extern "C" fn drift_margin(model: &[u8]) -> u64
+    ensures { λ r. ⌜ r ≡ marginWord (marginAnswer (now (model .entry))) ⌝ }
+{
+    let answer = drift::margin(model);
+    margin_word(answer)
 }

@@ -66,6 +66,7 @@ mod raw {
             out_length: usize,
         ) -> u64;
         pub fn drift_next_number(bytes: *const u8, bytes_length: usize, at: usize) -> u64;
+        pub fn drift_margin(model: *const u8, model_length: usize) -> u64;
     }
 }
 
@@ -100,6 +101,15 @@ pub enum Kind {
     Sheet,
     /// A trail that replays to a forbidden location.
     Trail,
+}
+
+/// How slight a drift is harmless for ever if a plan is safe.
+#[derive(Clone, Copy, Debug, PartialEq, Eq)]
+pub struct Tolerance {
+    /// The number of states (S).
+    pub states: usize,
+    /// A: every drift below 1/A of a unit is harmless.
+    pub margin: u32,
 }
 
 fn accepted(answer: u64) -> Result<u64, Refusal> {
@@ -212,5 +222,15 @@ pub fn write_evidence(model: &[u8], scratch: Scratch, out: &mut [u8]) -> Result<
     Ok(Written {
         is_unsafe: answer >> 8 & 0xff == 1,
         bytes: (answer >> 16) as usize,
+    })
+}
+
+/// The number of states of a plan and its margin; no scratch is needed.
+pub fn margin(model: &[u8]) -> Result<Tolerance, Refusal> {
+    // SAFETY: the pointer comes with the length of its slice.
+    let answer = accepted(unsafe { raw::drift_margin(model.as_ptr(), model.len()) })?;
+    Ok(Tolerance {
+        states: (answer >> 16 & 0xff_ffff) as usize,
+        margin: (answer >> 40) as u32,
     })
 }

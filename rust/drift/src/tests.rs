@@ -131,3 +131,14 @@ fn the_trail_carries_the_judged_steps() {
     assert_eq!(numbers.number(), Ok(2));
     assert_eq!(numbers.number(), Ok(judgement.count as u32));
 }
+
+/// The margins that the proved program prints; a plan with a loop that resets
+/// nothing is refused.
+#[test]
+fn margins() {
+    let bound = |states, margin| Ok(Tolerance { states, margin });
+    assert_eq!(margin(&LOOP), bound(LOOP_STATES, 40));
+    assert_eq!(margin(&ROW), bound(3, 3));
+    assert_eq!(margin(&LOOP[..10]), Err(1));
+    assert_eq!(margin(&[1, 1, 1, 1, 1, 0, 0, 0, 0, 0, 0, 0, 1]), Err(7));
+}

@@ -1,0 +1,33 @@
+// How slight a drift is harmless for ever if the plan on standard input is safe: its number of states, and a number A, every drift below a unit's A-th part
+// being harmless. Or the refusal. docs/DRIFT.md says what A means for a crystal.
+
+use drift::Tolerance;
+use libc::STDIN_FILENO;
+use libc::STDOUT_FILENO;
+
+// The longest plan takes 762 bytes, so any longer input is refused within these, and no other refusal is lost.
+const INPUT: usize = 4096;
+
+fn line(word: &[u8], number: u64) {
+    io::write_all(STDOUT_FILENO, word);
+    io::print_decimal(STDOUT_FILENO, number);
+    io::write_all(STDOUT_FILENO, b"\n");
+}
+
+fn show(found: Tolerance) {
+    match found {
+        Tolerance::Bound(states, margin) => {
+            line(b"states ", states as u64);
+            line(b"margin ", margin as u64);
+        }
+        Tolerance::Refused(number) => {
+            line(b"refused ", number as u64);
+        }
+    }
+}
+
+fn main() {
+    let mut input = [0u8; INPUT];
+    let n = io::read_full(STDIN_FILENO, &mut input);
+    show(drift::margin(&input[..n]));
+}
