@@ -1,11 +1,15 @@
 //! The proved library and the second checker timed in one run: for each size
 //! and class the time of a call, turn by turn, the fastest of some repeats,
 //! added up over some models. The second checker's tables of regions are
-//! built once beforehand.
+//! built once beforehand. With a folder as its argument it also draws the times
+//! there: safe.svg and unsafe.svg.
+
+mod plot;
 
 use second::generate::{generate_sized, Class};
 use second::regions::Regions;
 use std::hint::black_box;
+use std::path::Path;
 use std::time::{Duration, Instant};
 
 const MODELS: u64 = 8;
@@ -17,8 +21,8 @@ const CALLS: [&str; 4] = ["judge", "marks", "evidence", "check"];
 /// Ours, then the second checker's, for each call.
 type Times = [[Duration; 2]; CALLS.len()];
 
-/// How many times as long ours takes, for each call.
-type Ratios = [f64; CALLS.len()];
+/// Mean microseconds, ours and the second checker's, for each call.
+type Means = [[f64; 2]; CALLS.len()];
 
 /// Clocks, ceiling, locations.
 type Size = (usize, u8, usize);
@@ -97,8 +101,25 @@ fn main() {
     );
     let columns = CALLS.map(|call| format!(" | {call:>9} {:>9} {:>6}", "second", "ratio"));
     println!("{:>7} {:>6}{}", "states", "class", columns.concat());
-    let ratios = SIZES.map(|size| classes(size).map(|class| line(size, class)));
-    print_ratios(&ratios);
+    let means = SIZES.map(|size| classes(size).map(|class| line(size, class)));
+    print_ratios(&means);
+    if let Some(folder) = std::env::args().nth(1) {
+        draw(Path::new(&folder), &means);
+    }
+}
+
+/// The two pictures into a folder.
+fn draw(folder: &Path, means: &[[Means; 2]; SIZES.len()]) {
+    for (class, name) in ["safe", "unsafe"].into_iter().enumerate() {
+        let points: Vec<_> = SIZES
+            .iter()
+            .zip(means)
+            .map(|(size, means)| (states_of(*size), means[class]))
+            .collect();
+        let file = folder.join(format!("{name}.svg"));
+        std::fs::write(&file, plot::svg(&format!("{name} plans"), &points))
+            .unwrap_or_else(|why| panic!("{}: {why}", file.display()));
+    }
 }
 
 /// The class that is safe and one that is not.
@@ -113,17 +134,19 @@ fn classes((_, _, locations): Size) -> [Class; 2] {
 }
 
 /// All ratios, a line for each size.
-fn print_ratios(ratios: &[[Ratios; 2]; SIZES.len()]) {
+fn print_ratios(means: &[[Means; 2]; SIZES.len()]) {
     println!();
     println!("ratios: evidence and check are of a sheet where safe, else of a trail");
     let columns = CALLS.map(|call| format!(" | {call:>9} {:>6}", ""));
     println!("{:>7}{}", "", columns.concat());
     let columns = CALLS.map(|_| format!(" | {:>9} {:>6}", "safe", "unsafe"));
     println!("{:>7}{}", "states", columns.concat());
-    for (size, [safe, other]) in SIZES.iter().zip(ratios) {
-        let columns = safe.iter().zip(other);
-        let columns: String = columns
-            .map(|(safe, other)| format!(" | {safe:>9.2} {other:>6.2}"))
+    let ratio = |[ours, theirs]: &[f64; 2]| ours / theirs;
+    for (size, [safe, other]) in SIZES.iter().zip(means) {
+        let columns: String = safe
+            .iter()
+            .zip(other)
+            .map(|(safe, other)| format!(" | {:>9.2} {:>6.2}", ratio(safe), ratio(other)))
             .collect();
         println!("{:>7}{columns}", states_of(*size));
     }
@@ -163,8 +186,8 @@ fn times(buffers: &mut Buffers, model: &[u8], states: usize) -> Times {
     ]
 }
 
-/// The times of a size and class on one line, and their ratios.
-fn line(size: Size, class: Class) -> Ratios {
+/// The times of a size and class on one line.
+fn line(size: Size, class: Class) -> Means {
     let (clocks, ceiling, locations) = size;
     let states = states_of(size);
     let mut buffers = Buffers::new(states);
@@ -177,13 +200,14 @@ fn line(size: Size, class: Class) -> Ratios {
         }
     }
     let means = sums.map(|both| both.map(|time| time.as_secs_f64() * 1e6 / MODELS as f64));
-    let ratios = means.map(|[ours, theirs]| ours / theirs);
     let columns: String = means
         .iter()
-        .zip(ratios)
-        .map(|([ours, theirs], ratio)| format!(" | {ours:>9.1} {theirs:>9.1} {ratio:>6.2}"))
+        .map(|[ours, theirs]| {
+            let ratio = ours / theirs;
+            format!(" | {ours:>9.1} {theirs:>9.1} {ratio:>6.2}")
+        })
         .collect();
     let class = format!("{class:?}").to_lowercase();
     println!("{states:>7} {class:>6}{columns}");
-    ratios
+    means
 }
