@@ -103,6 +103,7 @@ fn main() {
     println!("{:>7} {:>6}{}", "states", "class", columns.concat());
     let means = SIZES.map(|size| classes(size).map(|class| line(size, class)));
     print_ratios(&means);
+    print_growth(&means);
     if let Some(folder) = std::env::args().nth(1) {
         draw(Path::new(&folder), &means);
     }
@@ -147,6 +148,27 @@ fn print_ratios(means: &[[Means; 2]; SIZES.len()]) {
             .iter()
             .zip(other)
             .map(|(safe, other)| format!(" | {:>9.2} {:>6.2}", ratio(safe), ratio(other)))
+            .collect();
+        println!("{:>7}{columns}", states_of(*size));
+    }
+}
+
+/// Our time for each thousand states: even where the time grows with the
+/// states, less where what a call always does weighs less.
+fn print_growth(means: &[[Means; 2]; SIZES.len()]) {
+    println!();
+    println!("growth: our microseconds for each thousand states");
+    let columns = CALLS.map(|call| format!(" | {call:>9} {:>6}", "unsafe"));
+    println!("{:>7}{}", "states", columns.concat());
+    for (size, [safe, other]) in SIZES.iter().zip(means) {
+        let thousands = states_of(*size) as f64 / 1000.0;
+        let columns: String = safe
+            .iter()
+            .zip(other)
+            .map(|(safe, other)| {
+                let (safe, other) = (safe[0] / thousands, other[0] / thousands);
+                format!(" | {safe:>9.0} {other:>6.0}")
+            })
             .collect();
         println!("{:>7}{columns}", states_of(*size));
     }

@@ -31,6 +31,11 @@ fn down(microseconds: f64) -> f64 {
 }
 
 fn tick_lines(svg: &mut String) {
+    let (middle, bottom) = (WIDTH / 2.0, HEIGHT - 16.0);
+    let _ = writeln!(
+        svg,
+        r#"<text x="{middle}" y="{bottom}" text-anchor="middle">states</text>"#
+    );
     for states in [100.0, 1_000.0, 10_000.0] {
         let (x, low, high) = (across(states), HEIGHT - MARGIN, MARGIN);
         let _ = writeln!(svg, r##"<path d="M{x:.1} {low} V{high}" stroke="#ddd"/>"##);
