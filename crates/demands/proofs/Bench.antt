@@ -26,7 +26,7 @@ use Rattle.replay.specs.Spelling.{movesNumbers, trailNumbers}
 use Rattle.replay.specs.Trail.{run, flowTo, labelAt, walkStep, closedWalk, numbersAt, faceTo, touchTo, trailStep, trailAnswer}
 use Rattle.evidence.specs.Evidence.{ofKind, checked}
 use Rattle.evidence.specs.Ours.{ourSheetNumbers, ourTrailNumbers, ourEvidence}
-use Rattle.drift.specs.Answer.{answer}
+use Rattle.number.specs.Answer.{answer}
 use Rattle.drift.specs.Call.{enough, refusal}
 use Rattle.drift.specs.Check.{told, checkAnswer}
 use Rattle.demands.specs.Bench.{samePoints, holds, bench}

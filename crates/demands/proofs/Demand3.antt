@@ -2,8 +2,8 @@
 -- and a passing sheet covers every widened run of at most K jumps with (K+1)e < D".
 --
 -- `bytes` spell an accepted model and each scratch slice is long enough: the call is refused by none of 1 to 8.
-use mathlib.Core.Path.{_≡_, refl, sym, ap, subst, _∙_}
-use mathlib.Core.Bool.{Bool, true, false, cond, true≢false}
+use mathlib.Core.Path.{_≡_, refl, sym, ap, _∙_}
+use mathlib.Core.Bool.{Bool, true, false, cond}
 use mathlib.Core.Logic.{_↔_, _⊎_, inl, inr, ⊎-elim}
 use mathlib.Core.List.{List, [], _∷_, _++_}
 use Prim.Native.Nat.{ℕ, _+_, _*_, _≤_, _<_}
@@ -16,6 +16,7 @@ use Rattle.theory.specs.Below.{bit}
 use Rattle.theory.specs.Automaton.{Edge, Run}
 use Rattle.theory.specs.System.{System}
 use Rattle.theory.specs.Marked.{Marked, unsafe}
+use Rattle.theory.specs.RegionGraph.{ForbiddenMarked}
 use Rattle.theory.specs.Sheet.{inOf}
 use Rattle.theory.specs.StateGraph.{labelledOf}
 use Rattle.theory.specs.Walk.{Lex}
@@ -31,25 +32,22 @@ use Rattle.theory.proofs.Least.{our-walk-least, our-trail-least}
 use Rattle.model.specs.declared.Model.{Model}
 use Rattle.model.specs.Model.{Lawful}
 use Rattle.graph.specs.Plan.{automatonOf, systemOfModel, labelledOfModel}
-use Rattle.graph.proofs.Models.{system-laws, labelled-laws, sheet-covers}
+use Rattle.graph.proofs.Models.{system-laws, labelled-laws, unsafe-states, safe-states, sheet-covers}
 use Rattle.evidence.specs.declared.Evidence.{Evidence}
-use Rattle.evidence.specs.declared.Evidence.the-variants as evidence
 use Rattle.evidence.specs.Evidence.{SheetPasses, TrailPasses, checked}
 use Rattle.evidence.specs.Ours.{ourEvidence}
 use Rattle.evidence.proofs.Answers.{sheet-passes, trail-passes, refusal-above}
 use Rattle.evidence.proofs.Ours.{our-sheet, our-trail}
-use Rattle.evidence_writer.specs.declared.Written.the-variants as written
 use Rattle.evidence_writer.specs.Written.{evidenceIn, verdictWith, writtenFor}
-use Rattle.drift.specs.Answer.{Answer}
+use Rattle.number.specs.Answer.{Answer}
 use Rattle.drift.specs.Call.{modelOf, refusal}
 use Rattle.drift.specs.Check.{told, checkAnswer}
 use Rattle.drift.specs.Write.{writeAnswer, writeOutput}
-use Rattle.drift.specs.Write as toldWrite
+use Rattle.demands.specs.Told.{kindAnswer}
 use Rattle.drift.proofs.Calls.{accepted, check-done, write-done, write-output}
-
--- the answers "1 for a passing sheet, 2 for a passing trail"
-abbrev pub kindAnswer : ℕ → Answer
-kindAnswer k = record { number = 0; values = k ∷ [] }
+use Rattle.evidence.specs.declared.Evidence.the-variants as evidence
+use Rattle.evidence_writer.specs.declared.Written.the-variants as written
+use Rattle.drift.specs.Write as toldWrite
 
 told-sheet : (e : Evidence) → told e ≡ kindAnswer 1 → e ≡ evidence.Sheet
 unfolding told
@@ -126,29 +124,44 @@ module _ (bytes lent : List ℕ) (taken : refusal bytes lent ≡ 0) where
   trail-is-unsafe shown (vs, s, w) =
       is-unsafe Y (system-laws m ok) (trail-sound P (labelled-laws m ok) vs (passes-law P vs .1 w))
 
-  -- the verdict is safe exactly where some sheet passes, and unsafe exactly where some trail does; ours are such
-  pub safe-exactly : (unsafe Y ≡ false) ↔ ((shown : List ℕ) × SheetPasses m shown)
-  safe-exactly = (λ u. (ourEvidence m, our-sheet m ok u), λ (shown, p). sheet-is-safe shown p)
+  -- ---- "Each accepted model has passing evidence of just one kind: a sheet exactly when no marked state is in a forbidden location, a trail exactly when
+  -- one is."
 
-  pub unsafe-exactly : (unsafe Y ≡ true) ↔ ((shown : List ℕ) × TrailPasses m shown)
-  unsafe-exactly = (λ u. (ourEvidence m, our-trail m ok u), λ (shown, p). trail-is-unsafe shown p)
+  pub safe-exactly : (ForbiddenMarked (automatonOf m) → ⊥) ↔ ((shown : List ℕ) × SheetPasses m shown)
+  safe-exactly = (
+    λ n. (ourEvidence m, our-sheet m ok (safe-states m ok .1 n)),
+    λ (shown, p). safe-states m ok .0 (sheet-is-safe shown p),
+  )
 
-  -- ---- "each accepted model has passing evidence of just one kind"
+  pub unsafe-exactly : ForbiddenMarked (automatonOf m) ↔ ((shown : List ℕ) × TrailPasses m shown)
+  unsafe-exactly = (
+    λ f. (ourEvidence m, our-trail m ok (unsafe-states m ok .1 f)),
+    λ (shown, p). unsafe-states m ok .0 (trail-is-unsafe shown p),
+  )
 
-  pub just-one-kind : (((shown : List ℕ) × SheetPasses m shown) × ((shown : List ℕ) → TrailPasses m shown → ⊥))
-      ⊎ (((shown : List ℕ) × TrailPasses m shown) × ((shown : List ℕ) → SheetPasses m shown → ⊥))
+  pub just-one-kind :
+      ((ForbiddenMarked (automatonOf m) → ⊥) × ((shown : List ℕ) × SheetPasses m shown) × ((shown : List ℕ) → TrailPasses m shown → ⊥))
+      ⊎ (ForbiddenMarked (automatonOf m) × ((shown : List ℕ) × TrailPasses m shown) × ((shown : List ℕ) → SheetPasses m shown → ⊥))
   just-one-kind =
       ⊎-elim
-      (λ u. inr (unsafe-exactly .0 u, λ shown p. true≢false (sym u ∙ sheet-is-safe shown p)))
-      (λ u. inl (safe-exactly .0 u, λ shown p. true≢false (sym (trail-is-unsafe shown p) ∙ u)))
+      (λ u. let f = unsafe-states m ok .0 u in inr (f, unsafe-exactly .0 f, λ shown p. safe-exactly .1 (shown, p) f))
+      (λ u. let n = safe-states m ok .0 u in inl (n, safe-exactly .0 n, λ shown p. n (unsafe-exactly .1 (shown, p))))
       (either (unsafe Y))
 
-  -- our evidence, by its definition, passes: a trail where the verdict is unsafe, a sheet where it is safe
-  pub ours-passes : checkAnswer bytes (ourEvidence m) lent ≡ kindAnswer (cond (unsafe Y) 2 1)
-  ours-passes =
+  -- our evidence, by its definition, passes: a trail where a marked state is in a forbidden location, a sheet where none is
+  pub ours-passes : (ForbiddenMarked (automatonOf m) → checkAnswer bytes (ourEvidence m) lent ≡ kindAnswer 2)
+      × ((ForbiddenMarked (automatonOf m) → ⊥) → checkAnswer bytes (ourEvidence m) lent ≡ kindAnswer 1)
+  ours-passes = (
+    λ f. trail-exactly (ourEvidence m) .1 (our-trail m ok (unsafe-states m ok .1 f)),
+    λ n. sheet-exactly (ourEvidence m) .1 (our-sheet m ok (safe-states m ok .1 n)),
+  )
+
+  -- so it passes with the kind of the computed verdict
+  ours-kind : checkAnswer bytes (ourEvidence m) lent ≡ kindAnswer (cond (unsafe Y) 2 1)
+  ours-kind =
       ⊎-elim
-      (λ u. rw u (trail-exactly (ourEvidence m) .1 (our-trail m ok u)))
-      (λ u. rw u (sheet-exactly (ourEvidence m) .1 (our-sheet m ok u)))
+      (λ u. rw u (ours-passes .0 (unsafe-states m ok .0 u)))
+      (λ u. rw u (ours-passes .1 (safe-states m ok .0 u)))
       (either (unsafe Y))
 
   -- 01: "The step count that our trail carries is at most that of every other passing trail of the model ..; of those with as few, ours is the least in
@@ -218,7 +231,7 @@ module _ (bytes lent out : List ℕ) where
       by (no h) =
           let (a, o) = writes taken (omega arith) in
           rw (a, o, take-append-seam ours (drop (length ours) out))
-          (ours-passes bytes lent′ taken′ ∙ ap kindAnswer (kind (unsafe (systemOfModel (modelOf bytes)))))
+          (ours-kind bytes lent′ taken′ ∙ ap kindAnswer (kind (unsafe (systemOfModel (modelOf bytes)))))
 
 -- "e = 10 isn't": the condition fails, and `Tight.not-covered` has a plan, a passing sheet and a run at equality
 pub ten-is-not : (9 + 1) * 10 < 100 → ⊥

@@ -2,36 +2,45 @@
 -- every drift above 0 does harm in the end.
 --
 -- As in Demand3, `bytes` spell an accepted model and each scratch slice is long enough.
-use mathlib.Core.Path.{_≡_, refl, sym, ap, _∙_}
-use mathlib.Core.Bool.{Bool, true, false}
+use mathlib.Core.Path.{_≡_, refl, sym, ap, subst, _∙_}
+use mathlib.Core.Bool.{true, false, true≢false}
 use mathlib.Core.Logic.{_↔_}
-use mathlib.Core.List.{List}
-use Prim.Native.Nat.{ℕ, _≤_}
+use mathlib.Core.List.{List, [], _∷_}
+use Prim.Native.Nat.{ℕ, _+_, _*_, _≤_, _<_}
+use native.Mathlib.Decide.{decLt}
 use native.Mathlib.Omega.{arith}
-use lib.ListN.{getD}
+use lib.ListN.{length, getD}
 use Rattle.theory.specs.Below.{bit}
 use Rattle.theory.specs.Marked.{unsafe}
+use Rattle.theory.specs.Automaton.{Automaton, Edge, Run}
 use Rattle.theory.proofs.Sheet.{is-sheet}
 use Rattle.theory.proofs.Replay.{passes-law}
+use Rattle.theory.proofs.Rounding.{steady-law}
+use Rattle.number.specs.Answer.{Answer, answer}
 use Rattle.model.specs.declared.Model.{Model}
 use Rattle.model.specs.Model.{Lawful}
 use Rattle.model.specs.Cycle.{LeavesUnreset}
+use Rattle.model.specs.Accept.{readModel}
 use Rattle.model.proofs.Accepted.{accepted-resets}
 use Rattle.graph.specs.Plan.{automatonOf, systemOfModel, labelledOfModel}
 use Rattle.graph.proofs.Models.{system-laws}
 use Rattle.robust.specs.Robust.{RobustlySafe, Fragile}
 use Rattle.robust.specs.Margin.{margin}
-use Rattle.robust_models.proofs.Models.{sheet-forever, trail-fragile, verdict-right, margin-uniform}
-use Rattle.drift.specs.Answer.{Answer, answer}
-use Rattle.drift.specs.Call.{modelOf, refusal}
-use Rattle.drift.specs.Judge.{verdict, judged}
+use Rattle.robust_models.proofs.Models.{safe-forever, sheet-forever, trail-fragile, verdict-right, margin-uniform}
+use Rattle.drift.specs.Call.{modelOf, statesOf, refusal}
+use Rattle.drift.specs.Judge.{judged}
 use Rattle.drift.specs.Check.{checkAnswer}
-use Rattle.drift.proofs.Calls.{taken-in, accepted, judge-done}
-use Rattle.demands.proofs.Demand3.{kindAnswer, sheet-exactly, trail-exactly}
+use Rattle.drift.specs.Margin.{marginAnswer}
+use Rattle.drift.proofs.Calls.{taken-in, accepted}
+use Rattle.demands.specs.Told.{verdictIn, kindAnswer, Perfect}
+use Rattle.demands.proofs.Demand2.{answered, one-bit, zero-bit, verdict-is}
+use Rattle.demands.proofs.Demand3.{sheet-exactly, trail-exactly}
 
--- the verdict in the judge's answer: 0 safe, 1 unsafe
-abbrev pub verdictIn : Answer → ℕ
-verdictIn a = getD (a .values) 0 0
+-- what the margin says of an accepted model
+margin-done : (bytes : List ℕ) → readModel bytes .refusal ≡ 0
+    → marginAnswer bytes ≡ record { number = 0; values = statesOf bytes ∷ margin (automatonOf (modelOf bytes)) (modelOf bytes .locations) ∷ [] }
+unfolding marginAnswer answer
+margin-done bytes e = simp e refl
 
 module _ (bytes lent : List ℕ) (taken : refusal bytes lent ≡ 0) where
   abbrev m : Model
@@ -43,30 +52,21 @@ module _ (bytes lent : List ℕ) (taken : refusal bytes lent ≡ 0) where
   resets : LeavesUnreset m → ⊥
   resets = accepted-resets bytes (taken-in bytes lent taken)
 
-  verdict-is : verdictIn (judged bytes lent) ≡ bit (unsafe (systemOfModel m))
-  unfolding answer verdict
-  verdict-is = ap verdictIn (judge-done bytes lent taken)
-
-  no-bit : (b : Bool) → bit b ≡ 0 → b ≡ false
-  no-bit true e = absurd (omega arith)
-  no-bit false e = refl
-
-  a-bit : (b : Bool) → bit b ≡ 1 → b ≡ true
-  a-bit true e = refl
-  a-bit false e = absurd (omega arith)
+  is : verdictIn (judged bytes lent) ≡ bit (unsafe (systemOfModel m))
+  is = verdict-is bytes lent taken
 
   -- the judge says safe exactly where some drift above 0 is harmless for ever
   pub safe-for-ever : (verdictIn (judged bytes lent) ≡ 0) ↔ ((A : ℕ) × RobustlySafe (automatonOf m) A)
   safe-for-ever = (
-    λ e. verdict-right m ok resets .0 .0 (no-bit (unsafe (systemOfModel m)) (sym verdict-is ∙ e)),
-    λ r. verdict-is ∙ ap bit (verdict-right m ok resets .0 .1 r),
+    λ e. verdict-right m ok resets .0 .0 (zero-bit (unsafe (systemOfModel m)) .0 (sym is ∙ e)),
+    λ r. is ∙ ap bit (verdict-right m ok resets .0 .1 r),
   )
 
   -- and unsafe exactly where every drift above 0 enters a forbidden location
   pub unsafe-for-real : (verdictIn (judged bytes lent) ≡ 1) ↔ Fragile (automatonOf m)
   unsafe-for-real = (
-    λ e. verdict-right m ok resets .1 .0 (a-bit (unsafe (systemOfModel m)) (sym verdict-is ∙ e)),
-    λ f. verdict-is ∙ ap bit (verdict-right m ok resets .1 .1 f),
+    λ e. verdict-right m ok resets .1 .0 (one-bit (unsafe (systemOfModel m)) .0 (sym is ∙ e)),
+    λ f. is ∙ ap bit (verdict-right m ok resets .1 .1 f),
   )
 
   -- the check says the same of whoever's evidence: a sheet that passes, with the bound that the drawing gives;
@@ -84,3 +84,39 @@ module _ (bytes lent : List ℕ) (taken : refusal bytes lent ≡ 0) where
   -- a number that serves every model
   pub margin-most : margin (automatonOf m) (m .locations) ≤ 11667
   margin-most = margin-uniform m ok
+
+-- ---- from the answers alone
+
+-- Where the judge answers safe and the margin answers A, no widened run of any number of jumps with A e < D enters a forbidden location.
+pub for-ever : (bytes lent : List ℕ) (s k s′ A : ℕ) → judged bytes lent ≡ record { number = 0; values = 0 ∷ s ∷ k ∷ [] }
+    → marginAnswer bytes ≡ record { number = 0; values = s′ ∷ A ∷ [] }
+    → (e D N : ℕ) → A * e < D → 0 < N
+    → (gs : List Edge) (l : ℕ) (v : List ℕ) (t : ℕ) → Run (automatonOf (modelOf bytes)) N e D gs l v t → automatonOf (modelOf bytes) .forbidden l ≡ false
+unfolding judged marginAnswer answer
+for-ever bytes lent s k s′ A safe bound =
+    let taken = answered (refusal bytes lent) _ (ap (λ (a : Answer). a .number) safe) in
+    let m = modelOf bytes in
+    let u = zero-bit (unsafe (systemOfModel m)) .0 (sym (verdict-is bytes lent taken) ∙ ap verdictIn safe) in
+    let is : margin (automatonOf m) (m .locations) ≡ A =
+    ap (λ (a : Answer). getD (a .values) 1 0) (sym (margin-done bytes (taken-in bytes lent taken)) ∙ bound) in
+    subst (RobustlySafe (automatonOf m)) is (safe-forever m (accepted bytes lent taken) u) .enters-none
+
+-- ---- plans that are unsafe by drift only
+
+module _ (bytes : List ℕ) where
+  abbrev plan : Automaton
+  plan = automatonOf (modelOf bytes)
+
+  -- Where no exact run enters a forbidden location, no widened run of at most K jumps with (K+1)e < D does.
+  pub drift-only : Perfect plan → (K e D N : ℕ) → (K + 1) * e < D → 0 < N
+      → (gs : List Edge) (l : ℕ) (v : List ℕ) (t : ℕ) → length gs ≤ K → Run plan N e D gs l v t → plan .forbidden l ≡ false
+  drift-only none = steady-law plan .1 none .enters-none
+
+  -- So a slip takes its time: a widened run that enters one has k jumps with (k+1)e at least D.
+  pub slip-takes : Perfect plan → (e D N : ℕ) → 0 < N
+      → (gs : List Edge) (l : ℕ) (v : List ℕ) (t : ℕ) → Run plan N e D gs l v t → plan .forbidden l ≡ true → D ≤ (length gs + 1) * e
+  slip-takes none e D N pos gs l v t r f = by (decLt ((length gs + 1) * e) D)
+    where
+      by : Dec ((length gs + 1) * e < D) → D ≤ (length gs + 1) * e
+      by (yes h) = absurd (true≢false (sym f ∙ drift-only none (length gs) e D N h pos gs l v t (omega arith) r))
+      by (no h) = omega arith

@@ -1,3 +1,5 @@
+-- Demand 2.
+pub mod Demand2
 -- Demand 3.
 pub mod Demand3
 -- Beyond 01: safe for ever, unsafe for real.
@@ -6,3 +8,7 @@ pub mod Forever
 pub mod Bench
 -- The bound on drift is tight.
 pub mod Tight
+-- The bench's loop plan, both ways.
+pub mod LoopPlan
+-- What the programs take in is enough.
+pub mod Input

@@ -15,7 +15,7 @@ use Rattle.model.specs.Model.{Lawful}
 use Rattle.model.proofs.Accepted.{accepted-lawful}
 use Rattle.graph.specs.Plan.{systemOfModel}
 use Rattle.graph.specs.States.{states}
-use Rattle.drift.specs.Answer.{answer}
+use Rattle.number.specs.Answer.{answer}
 use Rattle.drift.specs.Call.{modelOf, statesOf, enough, refusal, cleared, left}
 use Rattle.drift.specs.Judge.{verdict, judged, told}
 use Rattle.drift.specs.Marks.{short, marksRefusal, marked, marksOf, marksIn, output}

@@ -1,26 +1,19 @@
 -- A list is what its elements are.
-use Prim.Native.Nat.{ℕ, zero, suc, _+_, _<_}
+use Prim.Native.Nat.{ℕ, _+_, _<_}
 use native.Mathlib.Omega.{arith}
 use native.Mathlib.Decide.{ℕ-discrete}
-use mathlib.Core.Path.{_≡_, refl, sym, _∙_}
-use mathlib.Core.List.{List, [], _∷_}
-use native.Mathlib.Nat.{not-suc-le-zero, le-of-suc-le-suc}
+use mathlib.Core.Path.{_≡_, sym, _∙_}
+use mathlib.Core.List.{List}
 use lib.ListN.{length, getD, set, replicate, length-replicate, getD-replicate}
 use lib.Seq.{ext-getD, getD-set-same, getD-set-other}
 use lib.Dec.{ltb}
 use Rattle.theory.specs.Below.{bit, tab}
-use Rattle.theory.proofs.Below.{tab-length}
+use Rattle.theory.proofs.Below.{tab-length, tab-at}
 
 pub all-zero : (l : List ℕ) (n : ℕ) → length l ≡ n → ((k : ℕ) → k < n → getD l k 0 ≡ 0) → l ≡ replicate n 0
 all-zero l n e h =
     ext-getD 0 l (replicate n 0) (e ∙ sym (length-replicate n 0))
     (λ i b. let c = rw e at b in h i c ∙ sym (getD-replicate n i 0 0 c))
-
-tab-at : (n : ℕ) (f : ℕ → ℕ) (i : ℕ) → i < n → getD (tab n f) i 0 ≡ f i
-unfolding tab
-tab-at zero f i b = absurd (not-suc-le-zero b)
-tab-at (suc n) f zero b = refl
-tab-at (suc n) f (suc i) b = tab-at n (λ k. f (suc k)) i (le-of-suc-le-suc b)
 
 pub is-table : (l : List ℕ) (n : ℕ) (f : ℕ → ℕ) → length l ≡ n → ((k : ℕ) → k < n → getD l k 0 ≡ f k) → l ≡ tab n f
 is-table l n f e h =

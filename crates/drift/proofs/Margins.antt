@@ -9,7 +9,7 @@ use Rattle.graph.specs.Plan.{automatonOf}
 use Rattle.graph.specs.States.{states}
 use Rattle.robust.specs.Margin.{margin}
 use Rattle.drift.specs.declared.Tolerance.the-variants.{Bound, Refused}
-use Rattle.drift.specs.Answer.{answer}
+use Rattle.number.specs.Answer.{answer}
 use Rattle.drift.specs.Margin.{marginAnswer, told}
 
 module _ (bytes : List ℕ) (r : Reading) (e : r ≡ readModel bytes) where

@@ -14,7 +14,7 @@ use Rattle.theory.proofs.Levels.{mark-marks}
 use Rattle.marking.specs.Tables.{Distances}
 use Rattle.evidence_writer.proofs.Verdict.{steps-verdict}
 use Rattle.drift.specs.declared.Judgement.the-variants.{Safe, Unsafe}
-use Rattle.drift.specs.Answer.{answer}
+use Rattle.number.specs.Answer.{answer}
 use Rattle.drift.specs.Judge.{countOf, verdict, told}
 use Rattle.drift.specs.Marks.{marksOf}
 use Rattle.drift.proofs.Lists.{is-table}

@@ -6,7 +6,7 @@ use lib.Dec.{eqb}
 use Rattle.evidence.specs.declared.Evidence.{Evidence}
 use Rattle.evidence.specs.declared.Evidence.the-variants.{Sheet, Trail, Refused}
 use Rattle.evidence.specs.Evidence.{checked}
-use Rattle.drift.specs.Answer.{Answer, answer}
+use Rattle.number.specs.Answer.{Answer, answer}
 use Rattle.drift.specs.Call.{modelOf, refusal}
 
 -- 01's number and values for each case

@@ -9,7 +9,7 @@ use Rattle.theory.specs.Trail.{trailSteps}
 use Rattle.graph.specs.Plan.{systemOfModel}
 use Rattle.drift.specs.declared.Judgement.{Judgement}
 use Rattle.drift.specs.declared.Judgement.the-variants.{Safe, Unsafe, Refused}
-use Rattle.drift.specs.Answer.{Answer, answer}
+use Rattle.number.specs.Answer.{Answer, answer}
 use Rattle.drift.specs.Call.{modelOf, refusal}
 
 -- "the count of in-states if safe, or .. our trail's count"

@@ -1,7 +1,5 @@
 -- What a call hands back and leaves.
 
--- The paper's number and values of an answer.
-pub mod Answer
 -- Refusals of the model and of the scratch; what the scratch is left with.
 pub mod Call
 -- The judge.

@@ -6,7 +6,7 @@ use Rattle.graph.specs.Plan.{automatonOf}
 use Rattle.robust.specs.Margin.{margin}
 use Rattle.drift.specs.declared.Tolerance.{Tolerance}
 use Rattle.drift.specs.declared.Tolerance.the-variants.{Bound, Refused}
-use Rattle.drift.specs.Answer.{Answer, answer}
+use Rattle.number.specs.Answer.{Answer, answer}
 use Rattle.drift.specs.Call.{modelOf, statesOf}
 
 -- S, and the number A such that every drift e/D below 1/A is harmless for ever if the plan is safe

@@ -12,7 +12,7 @@ use Rattle.graph.specs.Plan.{systemOfModel}
 use Rattle.graph.specs.States.{states}
 use Rattle.drift.specs.declared.Marking.{Marking}
 use Rattle.drift.specs.declared.Marking.the-variants.{Marked, Refused}
-use Rattle.drift.specs.Answer.{Answer, answer}
+use Rattle.number.specs.Answer.{Answer, answer}
 use Rattle.drift.specs.Call.{modelOf, statesOf, refusal}
 
 -- "output too short for the marks"

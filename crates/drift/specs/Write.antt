@@ -6,7 +6,7 @@ use lib.Dec.{eqb}
 use Rattle.evidence_writer.specs.declared.Written.{Written}
 use Rattle.evidence_writer.specs.declared.Written.the-variants.{Safe, Unsafe, Refused}
 use Rattle.evidence_writer.specs.Written.{evidenceIn, writtenFor}
-use Rattle.drift.specs.Answer.{Answer, answer}
+use Rattle.number.specs.Answer.{Answer, answer}
 use Rattle.drift.specs.Call.{modelOf, refusal}
 
 -- 01's number and values for each case; the verdict is 0 safe and 1 unsafe

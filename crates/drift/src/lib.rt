@@ -10,7 +10,7 @@ ghost use Rattle.graph.specs.States.{states};
 ghost use Rattle.marking.specs.Tables.{Distances};
 ghost use Rattle.evidence.specs.Evidence.{checked};
 ghost use Rattle.evidence_writer.specs.Written.{evidenceIn, writtenFor};
-ghost use Rattle.drift.specs.Answer.{answer};
+ghost use Rattle.number.specs.Answer.{answer};
 ghost use Rattle.drift.specs.Call.{lengths, enough, left};
 ghost use Rattle.drift.specs.Judge.{verdict, judged, told};
 ghost use Rattle.drift.specs.Marks.{short, marksIn, marked, marksOf, output, told as toldMarks};

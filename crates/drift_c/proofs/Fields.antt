@@ -34,7 +34,7 @@ use Rattle.drift.specs.Write.{told, writeAnswer}
 use Rattle.robust.specs.Margin.{margin}
 use Rattle.robust_models.proofs.Models.{margin-uniform}
 use Rattle.drift.specs.Margin.{marginAnswer}
-use Rattle.drift.specs.Answer.{Answer, answer}
+use Rattle.number.specs.Answer.{Answer, answer}
 use Rattle.drift.specs.Call.{modelOf, statesOf, enough, refusal}
 use Rattle.drift.specs.Judge.{countOf, verdict, judged}
 use Rattle.drift.specs.Marks.{marksRefusal, marked}

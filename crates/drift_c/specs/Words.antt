@@ -5,7 +5,7 @@ use Prim.Native.Nat.{ℕ, _+_, _*_, _%_, _^_, _≤_, _<_}
 use lib.ListN.{getD}
 use Rattle.number.specs.declared.Number.{Number}
 use Rattle.number.specs.declared.Number.the-variants.{Value, Refused}
-use Rattle.drift.specs.Answer.{Answer}
+use Rattle.number.specs.Answer.{Answer}
 
 -- a value of an answer; 0 past the last
 abbrev pub value : Answer → ℕ → ℕ

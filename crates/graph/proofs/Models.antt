@@ -7,11 +7,12 @@ use mathlib.Core.Logic.{_↔_}
 use mathlib.Core.List.{List}
 use Rattle.theory.specs.System.{Laws}
 use Rattle.theory.specs.Labels.{LabelledLaws}
+use Rattle.theory.specs.Marked.{unsafe}
 use Rattle.theory.specs.Sheet.{sheetTest}
 use Rattle.theory.specs.Automaton.{Steady}
-use Rattle.theory.specs.Region.{fits, face}
-use Rattle.theory.specs.RegionGraph.{Marked}
-use Rattle.theory.specs.StateGraph.{locationOf, regionOf, allowedState}
+use Rattle.theory.specs.Region.{Region, fits, face}
+use Rattle.theory.specs.RegionGraph.{Allowed, Marked, ForbiddenMarked}
+use Rattle.theory.specs.StateGraph.{locationOf, regionOf, numberOf, allowedState}
 use Rattle.theory.proofs.Region.{fits-law}
 use Rattle.theory.proofs.RegionSteps.{face-fits}
 use Rattle.theory.proofs.StateGraph.{allowed-state-law, region-lawful}
@@ -35,6 +36,18 @@ module _ (m : Model) (ok : Lawful m) where
   pub marked-law : (p : ℕ) → p < states m
       → marked.Marked (systemOfModel m) p ↔ Marked (automatonOf m) (locationOf (automatonOf m) p) (regionOf (automatonOf m) p)
   marked-law = state-marked.marked-law (automatonOf m) (m .locations) (within m ok) (capped m ok)
+
+  -- each marked state is allowed, in a location, and its number is marked
+  pub marked-numbers : {l : ℕ} {xs : Region} → Marked (automatonOf m) l xs
+      → (l < m .locations) × Allowed (automatonOf m) l xs × marked.Marked (systemOfModel m) (numberOf (automatonOf m) l xs)
+  marked-numbers = state-marked.marked-numbers (automatonOf m) (m .locations) (within m ok) (capped m ok)
+
+  -- the verdict: unsafe just if a marked state is in a forbidden location, safe just if none is
+  pub unsafe-states : (unsafe (systemOfModel m) ≡ true) ↔ ForbiddenMarked (automatonOf m)
+  unsafe-states = state-marked.unsafe-states (automatonOf m) (m .locations) (within m ok) (capped m ok)
+
+  pub safe-states : (unsafe (systemOfModel m) ≡ false) ↔ (ForbiddenMarked (automatonOf m) → ⊥)
+  safe-states = state-marked.safe-states (automatonOf m) (m .locations) (within m ok) (capped m ok)
 
   -- a set of numbers that has the start, is closed under time and jump, and has no forbidden state covers slight drift
   pub covers : (isIn : ℕ → Bool) → isIn (systemOfModel m .start) ≡ true

@@ -236,3 +236,24 @@ sound bs at = go (readNumber bs at) (answers bs at)
         (spells-bound s, omega arith, omega (arith, ap length e, length-drop at bs, length-append g rest))
     go (Refused r) (inl (q, s)) = omega arith
     go (Refused r) (inr (q, s)) = omega arith
+
+spells-few : {g : List ℕ} {v : ℕ} → Spells g v → length g ≤ 3
+spells-few = spells-ind (λ (g : List ℕ) (v : ℕ). length g ≤ 3) (λ a h. omega arith) (λ a b h k. omega arith) (λ a b c h k m. omega arith)
+
+-- a number takes at most three bytes
+pub read-near : (bs : List ℕ) (at v p : ℕ) → readNumber bs at ≡ Value v p → p ≤ at + 3
+read-near bs at v p e = let (g, rest, d, s, q) = read-value bs at v p .0 e in omega (arith, spells-few s)
+
+-- bytes that agree below an index, in what they are and in where they end
+pub record Agree (n : ℕ) (bs cs : List ℕ) : Type 0 where
+  pub ends : (i : ℕ) → i < n → ltb i (length bs) ≡ ltb i (length cs)
+  pub bytes : (i : ℕ) → i < n → getD bs i 0 ≡ getD cs i 0
+
+-- read alike where three bytes and more are below it
+pub read-same : {n : ℕ} {bs cs : List ℕ} → Agree n bs cs → (at : ℕ) → at + 3 ≤ n → readNumber bs at ≡ readNumber cs at
+unfolding readNumber
+read-same {n} a at h =
+    let h0 : at < n = omega arith in
+    let h1 : at + 1 < n = omega arith in
+    let h2 : at + 1 + 1 < n = omega arith in
+    rw (a .ends at h0, a .ends (at + 1) h1, a .ends (at + 1 + 1) h2, a .bytes at h0, a .bytes (at + 1) h1, a .bytes (at + 1 + 1) h2) refl

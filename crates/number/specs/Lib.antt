@@ -2,3 +2,5 @@
 pub mod Number
 -- Numbers one after the other.
 pub mod Sequence
+-- The paper's number and values of an answer.
+pub mod Answer

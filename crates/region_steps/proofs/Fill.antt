@@ -1,21 +1,13 @@
 -- Loops that fill a list: entry after entry, or a column of a table.
-use Prim.Native.Nat.{ℕ, zero, suc, _+_, _*_, _/_, _%_, _<_}
+use Prim.Native.Nat.{ℕ, _+_, _*_, _/_, _%_, _<_}
 use native.Mathlib.Omega.{arith}
 use native.Mathlib.Decide.{ℕ-discrete}
-use native.Mathlib.Nat.{mul-add-div-right, mul-add-mod-self-right, div-eq-of-lt, mod-eq-of-lt, mul-le-mul-right, le-of-suc-le-suc}
+use native.Mathlib.Nat.{mul-add-div-right, mul-add-mod-self-right, div-eq-of-lt, mod-eq-of-lt, mul-le-mul-right}
 use mathlib.Core.Path.{_≡_, refl, sym, ap, _∙_}
 use mathlib.Core.List.{List}
 use lib.ListN.{length, getD, set, length-set}
 use lib.Seq.{getD-set-same, getD-set-other}
-use Rattle.theory.specs.Below.{tab}
 use Rattle.region_steps.specs.Tables.{Column}
-
--- a table of the values of a function
-pub tab-at : (n : ℕ) (f : ℕ → ℕ) (i : ℕ) → i < n → getD (tab n f) i 0 ≡ f i
-unfolding tab
-tab-at zero f i h = absurd (omega arith)
-tab-at (suc n) f zero h = refl
-tab-at (suc n) f (suc i) h = tab-at n (λ i. f (suc i)) i (le-of-suc-le-suc h)
 
 -- the entries at places of their own, one more set
 pub set-next : (at f : ℕ → ℕ) (l : List ℕ) (i : ℕ) → ((j : ℕ) → j < i → at j ≡ at i → ⊥) → at i < length l

@@ -17,8 +17,6 @@ pub mod Entries
 pub mod Middle
 -- Safe for ever.
 pub mod Forever
--- The marked set, from the side of the numbered states.
-pub mod States
 -- Time and jump steps lift to exact moves between corners.
 pub mod Lift
 -- Widened runs that drift from one exact run towards another along the same edges.

@@ -1,5 +1,5 @@
 -- Laws of tests below a bound. The last part reads a test made of tests: for a nest of `&&`, `||`, `imp`, `any` and `all`, one term.
-use mathlib.Core.Path.{_≡_, refl, sym, ap, _∙_}
+use mathlib.Core.Path.{_≡_, refl, sym, ap, subst, _∙_}
 use mathlib.Core.Bool.{Bool, true, false, not, cond, _&&_, _||_, true≢false, false≢true, or-false, or-assoc, and-true, and-assoc}
 use mathlib.Core.Logic.{_↔_, _⊎_, inl, inr, ⊎-elim}
 use Prim.Native.Nat.{ℕ, zero, suc, _+_, _≤_, _<_, zero-le, suc-le-suc}
@@ -9,7 +9,7 @@ use native.Mathlib.Decide.{decLe, decLt}
 use lib.ListN.{length, getD}
 use lib.Dec.{leb, ltb, eqb}
 use borrow.Author.Tests.{not-true, leb-true, le-leb, ltb-true, lt-ltb, eqb-true, eq-eqb}
-use Rattle.theory.specs.Below.{imp, bit, any, all, count, least, top, tab}
+use Rattle.theory.specs.Below.{imp, bit, any, all, count, Counted, least, top, tab}
 
 -- ---- Booleans
 
@@ -227,6 +227,12 @@ unfolding tab
 tab-length zero f = refl
 tab-length (suc n) f = ap suc (tab-length n (λ i. f (suc i)))
 
+pub tab-at : (n : ℕ) (f : ℕ → ℕ) (i : ℕ) → i < n → getD (tab n f) i 0 ≡ f i
+unfolding tab
+tab-at zero f i h = absurd (omega arith)
+tab-at (suc n) f zero h = refl
+tab-at (suc n) f (suc i) h = tab-at n (λ k. f (suc k)) i (omega arith)
+
 -- a function that is 0 from n on is its table
 pub tab-all : (n : ℕ) (f : ℕ → ℕ) → ((i : ℕ) → n ≤ i → f i ≡ 0) → (i : ℕ) → getD (tab n f) i 0 ≡ f i
 unfolding tab
@@ -250,6 +256,27 @@ pub count-suc : (n : ℕ) (f : ℕ → Bool) → count (suc n) f ≡ count n f +
 unfolding count
 count-suc zero f = omega arith
 count-suc (suc n) f = omega (arith, count-suc n (λ i. f (suc i)))
+
+-- a test of a property counts those that have it, and there is one such count
+pub counted : (P : ℕ → Type 0) (f : ℕ → Bool) (n : ℕ) → ((i : ℕ) → i < n → (f i ≡ true) ↔ P i) → Counted P n (count n f)
+unfolding count
+counted P f zero h = Counted.none
+counted P f (suc n) h = by (f n) refl (counted P f n (λ i b. h i (omega arith)))
+  where
+    by : (b : Bool) → f n ≡ b → Counted P n (count n f) → Counted P (suc n) (count (suc n) f)
+    by true e c =
+        let k : count (suc n) f ≡ suc (count n f) = omega (arith, count-suc n f, ap bit e) in
+        subst (Counted P (suc n)) (sym k) (Counted.one c (h n (omega arith) .0 e))
+    by false e c =
+        let k : count (suc n) f ≡ count n f = omega (arith, count-suc n f, ap bit e) in
+        subst (Counted P (suc n)) (sym k) (Counted.skip c (λ p. false≢true (sym e ∙ h n (omega arith) .1 p)))
+
+pub counted-once : {P : ℕ → Type 0} {n k j : ℕ} → Counted P n k → Counted P n j → k ≡ j
+counted-once Counted.none Counted.none = refl
+counted-once (Counted.one c p) (Counted.one d q) = ap suc (counted-once c d)
+counted-once (Counted.one c p) (Counted.skip d q) = absurd (q p)
+counted-once (Counted.skip c p) (Counted.one d q) = absurd (p q)
+counted-once (Counted.skip c p) (Counted.skip d q) = counted-once c d
 
 pub least-is : (n : ℕ) (f : ℕ → Bool) (i : ℕ) → i < n → f i ≡ true → ((j : ℕ) → j < i → f j ≡ false) → least n f ≡ i
 least-is n f i l e h = le-antisymm (least-min n f i l e) (not-before (decLt (least n f) i))

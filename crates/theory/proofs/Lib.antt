@@ -47,6 +47,8 @@ pub mod Shift
 pub mod Rounding
 -- Exact runs are widened runs.
 pub mod Widen
+-- Plans that no run tells apart.
+pub mod Alike
 -- Exact runs stay in a set that is closed under time and jump: such a set covers slight drift.
 pub mod Stay
 -- The bound is sharp.

@@ -1,5 +1,6 @@
 -- A widened run with few jumps rounds to an exact run on whole times.
 use mathlib.Core.Path.{_≡_, refl, ap}
+use mathlib.Core.Logic.{_↔_}
 use mathlib.Core.List.{List, [], _∷_}
 use mathlib.Core.Bool.{Bool, true, false}
 use Prim.Native.Nat.{ℕ, zero, suc, _+_, _*_, _-_, _/_, _≤_, _<_}
@@ -8,7 +9,7 @@ use native.Mathlib.Omega.{arith}
 use lib.ListN.{length, replicate}
 use Rattle.theory.proofs.Shift.{div-mono, Good, AllGood, good-shift}
 use Rattle.theory.specs.Pointwise.{Each}
-use Rattle.theory.specs.Automaton.{Automaton, Edge, Upto, AtLeast, elapse, resetValues, Run, Exact, Slight}
+use Rattle.theory.specs.Automaton.{Automaton, Edge, Upto, AtLeast, elapse, resetValues, Run, Exact, Slight, Steady}
 use Rattle.theory.proofs.Pointwise.{each-zip}
 
 -- Out of e/D of a unit: b N-ths, where b is the whole part of e * N / D.
@@ -133,3 +134,13 @@ rounded {N = N} {e} {D} {t = t} {gs = gs} K pos small h r =
     let g = good-shift N b pos (t ∷ earlier r) (rw earlier-length le) in
     let p = round b (g .0) pos (lt-div-mul-add (omega arith)) r (g .2) in
     (p .values, p .time, p .run)
+
+-- So perfect clocks decide what slight drift can do: no widened run of at most K jumps with (K+1)e < D enters a forbidden location just if no exact run on
+-- whole times does.
+pub steady-law : (m : Automaton) → Steady m ↔ ((gs : List Edge) (l : ℕ) (v : List ℕ) (t : ℕ) → Exact m gs l v t → m .forbidden l ≡ false)
+steady-law m = (
+  λ s gs l v t r. s .enters-none (length gs) 0 1 1 (omega arith) (omega arith) gs l v t (omega arith) r,
+  λ none. record {
+    enters-none = λ K e D N small pos gs l v t few r. let (w, u, x) = rounded K pos small few r in none gs l w u x;
+  },
+)

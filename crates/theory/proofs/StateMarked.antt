@@ -1,16 +1,19 @@
 -- The marked numbers of an automaton's system are its marked states, and a set of numbers that is closed under time and jump covers slight drift.
 use Prim.Native.Nat.{ℕ, suc, _<_}
 use native.Mathlib.Omega.{arith}
-use mathlib.Core.Path.{_≡_, refl, sym, ap, subst}
-use mathlib.Core.Bool.{Bool, true, false}
+use mathlib.Core.Path.{_≡_, refl, sym, ap, subst, _∙_}
+use mathlib.Core.Bool.{Bool, true, false, true≢false}
 use mathlib.Core.Logic.{_↔_}
 use mathlib.Core.List.{List, [], _∷_}
 use lib.ListN.{length}
 use Rattle.theory.specs.Sheet.{inOf, sheetTest}
 use Rattle.theory.specs.Automaton.{Automaton, Capped, Steady}
 use Rattle.theory.specs.Region.{Region, face, shares}
-use Rattle.theory.specs.RegionGraph.{Allowed, FlowWalk, OnClosedWalk, Step, Marked, FlowClosed}
+use Rattle.theory.specs.RegionGraph.{Allowed, FlowWalk, OnClosedWalk, Step, Marked, StepClosed, ForbiddenMarked, FlowClosed}
 use Rattle.theory.specs.StateGraph.{Within, stateCount, locationOf, regionOf, numberOf, flowTest, systemOf}
+use Rattle.theory.specs.Marked.{unsafe}
+use Rattle.theory.proofs.Below.{false-unless-true}
+use Rattle.theory.proofs.Marked.{unsafe-law}
 use Rattle.theory.proofs.Region.{face-law, shares-law}
 use Rattle.theory.proofs.Sheet.{sheet-law}
 use Rattle.theory.proofs.Stay.{steady}
@@ -18,6 +21,16 @@ use Rattle.theory.proofs.StateGraph.{location-of-number, region-of-numb
 use Rattle.theory.specs.Walk as walk
 use Rattle.theory.specs.System as system
 use Rattle.theory.specs.Marked as marked
+
+-- 01: "The marked set is the smallest set with the start (all clocks 0) that is closed under all four", on locations and regions: it is such a set,
+-- and it lies in every such set.
+in-closed : {m : Automaton} {P : ℕ → Region → Type 0} → StepClosed m P → {l : ℕ} {xs : Region} → Marked m l xs → P l xs
+in-closed C Marked.begin = C .start
+in-closed C (Marked.onward {l = l} {k = k} {xs = xs} {ys = ys} c t) = C .step l xs k ys (in-closed C c) t
+
+pub marked-smallest : (m : Automaton) → StepClosed m (Marked m)
+    × ((P : ℕ → Region → Type 0) → StepClosed m P → (l : ℕ) (xs : Region) → Marked m l xs → P l xs)
+marked-smallest m = (record { start = Marked.begin; step = λ l xs k ys c t. Marked.onward c t }, λ P C l xs c. in-closed C c)
 
 module _ (m : Automaton) (locations : ℕ) (W : Within m locations) (kept : Capped m) where
   -- ---- closed walks
@@ -85,7 +98,8 @@ module _ (m : Automaton) (locations : ℕ) (W : Within m locations) (kept : Capp
       rw (location-of-number m l (c .region), region-of-number m l (c .region)) w in
       (b, c, marked.by-touch (is-beside m locations W shares b a c (shares-law xs ys .1 s)) (on-closed-walk-law (numberOf m l ys) n .1 o))
 
-  marked-numbers : {l : ℕ} {xs : Region} → Marked m l xs → (l < locations) × Allowed m l xs × marked.Marked (systemOf m locations) (numberOf m l xs)
+  -- each marked state is allowed, in a location, and its number is marked
+  pub marked-numbers : {l : ℕ} {xs : Region} → Marked m l xs → (l < locations) × Allowed m l xs × marked.Marked (systemOf m locations) (numberOf m l xs)
   unfolding systemOf
   marked-numbers Marked.begin = (W .start, start-allowed kept (m .start), marked.begin)
   marked-numbers (Marked.onward c t) =
@@ -96,6 +110,29 @@ module _ (m : Automaton) (locations : ℕ) (W : Within m locations) (kept : Capp
   -- the marked numbers are the marked states
   pub marked-law : (p : ℕ) → p < stateCount m locations → marked.Marked (systemOf m locations) p ↔ Marked m (locationOf m p) (regionOf m p)
   marked-law p h = (marked-states, λ c. subst (λ n. marked.Marked (systemOf m locations) n) (number-of-parts m locations p h) (marked-numbers c .2))
+
+  -- ---- the verdict
+
+  -- some marked number is forbidden just if a marked state is in a forbidden location
+  pub forbidden-marked-law : marked.Unsafe (systemOf m locations) ↔ ForbiddenMarked m
+  unfolding systemOf
+  forbidden-marked-law = (
+    λ (s, c, f). (locationOf m s, regionOf m s, marked-states c, f),
+    λ (l, xs, c, f).
+        let (b, a, n) = marked-numbers c in
+        (numberOf m l xs, n, subst (λ k. m .forbidden k ≡ true) (sym (location-of-number m l (a .region))) f),
+  )
+
+  pub unsafe-states : (unsafe (systemOf m locations) ≡ true) ↔ ForbiddenMarked m
+  unsafe-states =
+      let law = unsafe-law (systemOf m locations) (system-laws m locations W kept) in
+      (λ u. forbidden-marked-law .0 (law .0 u), λ f. law .1 (forbidden-marked-law .1 f))
+
+  pub safe-states : (unsafe (systemOf m locations) ≡ false) ↔ (ForbiddenMarked m → ⊥)
+  safe-states = (
+    λ u f. true≢false (sym (unsafe-states .1 f) ∙ u),
+    λ none. false-unless-true (unsafe (systemOf m locations)) (λ u. none (unsafe-states .0 u)),
+  )
 
   -- ---- widened runs
 

@@ -86,3 +86,11 @@ Slight K e D = (K + 1) * e < D
 pub record Steady (m : Automaton) : Type 0 where
   pub enters-none : (K e D N : ℕ) → Slight K e D → 0 < N
       → (gs : List Edge) (l : ℕ) (v : List ℕ) (t : ℕ) → length gs ≤ K → Run m N e D gs l v t → m .forbidden l ≡ false
+
+-- Two plans with the same clocks, start and edges, and the same kinds and stay limits at each of their locations, 0 to locations - 1: no run tells them apart.
+pub record Alike (m k : Automaton) (locations : ℕ) : Type 0 where
+  pub clocks : m .clocks ≡ k .clocks
+  pub start : m .start ≡ k .start
+  pub edges : m .edges ≡ k .edges
+  pub limits : (l : ℕ) → l < locations → m .invariant l ≡ k .invariant l
+  pub kinds : (l : ℕ) → l < locations → m .forbidden l ≡ k .forbidden l

@@ -27,6 +27,12 @@ unfoldable pub count : ℕ → (ℕ → Bool) → ℕ
 count zero f = zero
 count (suc n) f = bit (f zero) + count n (λ i. f (suc i))
 
+-- so many of the numbers below n have a property
+pub data Counted (P : ℕ → Type 0) : ℕ → ℕ → Type 0 where
+  none : Counted P 0 0
+  one : {n k : ℕ} → Counted P n k → P n → Counted P (suc n) (suc k)
+  skip : {n k : ℕ} → Counted P n k → (P n → ⊥) → Counted P (suc n) k
+
 -- the least i below n that passes f, or n if none does
 unfoldable pub least : ℕ → (ℕ → Bool) → ℕ
 least zero f = zero

@@ -2,7 +2,7 @@
 -- A state is a location with a region.
 use mathlib.Core.Path.{_≡_}
 use mathlib.Core.List.{List, [], _∷_, List·Memᴰ}
-use mathlib.Core.Bool.{Bool, _&&_}
+use mathlib.Core.Bool.{Bool, true, _&&_}
 use Prim.Native.Nat.{ℕ, suc}
 use lib.ListN.{replicate}
 use Rattle.theory.specs.Automaton.{Automaton, Edge}
@@ -57,6 +57,15 @@ origin m = point (replicate (m .clocks) 0)
 pub data Marked (m : Automaton) : ℕ → Region → Type 0 where
   begin : Marked m (m .start) (origin m)
   onward : {l k : ℕ} {xs ys : Region} → Marked m l xs → Step m l xs k ys → Marked m k ys
+
+-- a "set with the start (all clocks 0) that is closed under all four"
+pub record StepClosed (m : Automaton) (P : ℕ → Region → Type 0) : Type 0 where
+  pub start : P (m .start) (origin m)
+  pub step : (l : ℕ) (xs : Region) (k : ℕ) (ys : Region) → P l xs → Step m l xs k ys → P k ys
+
+-- the verdict unsafe: some marked state is in a forbidden location
+abbrev pub ForbiddenMarked : Automaton → Type 0
+ForbiddenMarked m = (l : ℕ) × (xs : Region) × Marked m l xs × (m .forbidden l ≡ true)
 
 -- a set of states that has the start and is closed under time and jump
 pub record FlowClosed (m : Automaton) (P : ℕ → Region → Type 0) : Type 0 where

@@ -8,7 +8,7 @@ use lib.Seq.{length-take-le}
 use Rattle.model.specs.declared.Reading.{Reading}
 use Rattle.model.proofs.Accepted.{reading-lawful}
 use Rattle.graph.specs.States.{states}
-use Rattle.drift.specs.Answer.{answer}
+use Rattle.number.specs.Answer.{answer}
 use Rattle.drift.specs.Call.{lengths, enough}
 use Rattle.graph.specs.Plan.{systemOfModel}
 use Rattle.drift.specs.Judge.{verdict}

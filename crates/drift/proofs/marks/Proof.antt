@@ -9,7 +9,7 @@ use lib.Seq.{length-take-le}
 use Rattle.model.specs.declared.Reading.{Reading}
 use Rattle.model.proofs.Accepted.{reading-lawful}
 use Rattle.graph.specs.States.{states}
-use Rattle.drift.specs.Answer.{answer}
+use Rattle.number.specs.Answer.{answer}
 use Rattle.drift.specs.Call.{lengths, enough}
 use Rattle.drift.specs.Marks.{short, marksIn}
 use Rattle.drift.proofs.Calls.{enough-each, not-eight, by-bytes, by-scratch, by-none, left-alone, marks-refused, output-alone, left-zero, marks-done, output-done}

@@ -51,7 +51,7 @@ use denote.Enum.Laws as EL
 use denote.Struct.Laws as LL
 use Rattle.number.specs.declared.Number.{Number}
 use Rattle.number.specs.Number.{readNumber}
-use Rattle.reader.specs.Reader.{afterNumber}
+use Rattle.reader.specs.Reader.{afterNumber, told}
 use Rattle.reader.specs.declared.Reader.{Reader}
 use Rattle.number.proofs.read.Symbol.{name as #number·read}
 use Rattle.reader.proofs.next_offset.Symbol.{name as #reader·next-offset}
@@ -213,7 +213,7 @@ module _ {M : Type 1} (𝓤 : URA M) (H : Heap 𝓤) (A : Atoms 𝓤) (W : Given
       suffices ! _
       (ends-at 𝓤 H A next.ended stayed (next.clauses 𝓤 H A at-mem run) W (((κ, (κ′, tt)), (q, (q′, tt)), bounds, x, vals), tt)
       u t (moved n, tt) (tt, tt)) $
-      says ! (e′, λ i. moved (e i)) $ move ! (2 ∷ 4 ∷ []) $ join ! $ frame ! $
+      says ! (ap told e′, e′, λ i. moved (e i)) $ move ! (2 ∷ 4 ∷ []) $ join ! $ frame ! $
       feqI ! (List Val) (vptr b o ∷ []) (vptr b o ∷ []) refl $ fjoin3 ! $ nothing ! $ move ! (1 ∷ 0 ∷ []) $ fjoin ! $ frame ! $ done !
 
   module _ (C : Calls 𝓤 H) (Λ : Loops 𝓤 H) (fm : FmC 𝓤 H (W .laws) C)

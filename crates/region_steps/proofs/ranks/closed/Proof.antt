@@ -3,7 +3,7 @@ use borrow.Author.Needs.{needs}
 use Rattle.theory.specs.Below.{tab}
 use Rattle.region_steps.specs.Codes.{rankCodeCount, codeOf, closedRanks, closedCode}
 use Rattle.region_steps.proofs.Codes.{closed-below}
-use Rattle.region_steps.proofs.Fill.{tab-at}
+use Rattle.theory.proofs.Below.{tab-at}
 use Rattle.region_steps.proofs.ranks.closed.Statement.{statement}
 use Rattle.region_steps.proofs.ranks.closed.Tie as tie
 
