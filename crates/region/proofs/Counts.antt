@@ -6,7 +6,7 @@ use mathlib.Core.List.{List, [], _∷_}
 use lib.ListN.{length, getD}
 use Rattle.theory.specs.Region.{regions}
 use Rattle.theory.specs.Enumeration.{countOf}
-use Rattle.theory.proofs.Enumeration.{count-law}
+use Rattle.theory.proofs.RegionCount.{count-law}
 use Rattle.region.specs.Limits.{Clocks, Ceiling}
 use Rattle.region.proofs.Views.{three}
 
@@ -28,4 +28,4 @@ pub counts-law : (n M : ℕ) → Clocks n → Ceiling M → getD counts ((n - 1)
 counts-law n M h k =
     three (λ n. Right n M) (four (Right 1) refl refl refl refl M k) (four (Right 2) refl refl refl refl M k)
     (four (Right 3) refl refl refl refl M k) n h
-    ∙ count-law n M (h .low) (h .high) (k .low) (k .high)
+    ∙ count-law n M (h .low) (h .high)

@@ -8,7 +8,8 @@ use lib.ListN.{length, getD}
 use Rattle.theory.specs.Region.{Clock, lawful, regions}
 use Rattle.theory.proofs.Lists.{map-law}
 use Rattle.theory.proofs.Sorted.{at-in}
-use Rattle.theory.proofs.Enumeration.{regions-law, count-law}
+use Rattle.theory.proofs.Enumeration.{regions-law}
+use Rattle.theory.proofs.RegionCount.{count-law}
 use Rattle.region.specs.Limits.{Clocks, Ceiling, tableLength, packedBound, mostClocks, mostCeiling}
 use Rattle.region.specs.View.{structOf}
 use Rattle.region.specs.Packed.{packClocks, packedRegions, packed}
@@ -23,7 +24,7 @@ full-ceiling : Ceiling mostCeiling
 full-ceiling = record { low = omega arith; high = omega arith }
 
 pub table-length : length packed ≡ tableLength
-table-length = packed-length 3 4 ∙ sym (count-law 3 4 (omega arith) (omega arith) (omega arith) (omega arith))
+table-length = packed-length 3 4 ∙ sym (count-law 3 4 (omega arith) (omega arith))
 
 -- ---- 01: "its rule (lawful, ascending, complete) is shown over all of it"
 

@@ -10,7 +10,7 @@ use lib.Seq.{take-suc, take-all, drop-cons, set-at}
 use Rattle.theory.specs.Lists.{every, keep, same, from}
 use Rattle.theory.specs.Region.{lawful, fits, regions}
 use Rattle.theory.proofs.Lists.{every-law, same-law}
-use Rattle.theory.proofs.Sorted.{from-law}
+use Rattle.theory.proofs.Sorted.{from-law, keep-append}
 use Rattle.region.specs.Limits.{Clocks, Ceiling}
 use Rattle.region.specs.Packed.{packClocks, packedRegions, packed, chosen}
 
@@ -30,15 +30,6 @@ unfolding packedRegions
 packed-length n M = length-map (regions n M) packClocks
 
 -- ---- a loop that copies what passes a test to the front of a slice
-
-cond-append : (b : Bool) (x : ℕ) (l m : List ℕ) → cond b (x ∷ (l ++ m)) (l ++ m) ≡ cond b (x ∷ l) l ++ m
-cond-append true x l m = refl
-cond-append false x l m = refl
-
-keep-append : (f : ℕ → Bool) (a b : List ℕ) → keep f (a ++ b) ≡ keep f a ++ keep f b
-keep-append f [] b = refl
-keep-append f (x ∷ a) b =
-    ap (λ (l : List ℕ). cond (f x) (x ∷ l) l) (keep-append f a b) ∙ cond-append (f x) x (keep f a) (keep f b)
 
 -- one element more is tried
 keep-next : (f : ℕ → Bool) (l : List ℕ) (i : ℕ) (b : Bool) → i < length l → f (getD l i 0) ≡ b

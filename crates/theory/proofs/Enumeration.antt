@@ -1,4 +1,4 @@
--- `regions n M` are the lawful regions of n clocks at ceiling M, all of them, each once and in order: over any n and M. The counts of 01.
+-- `regions n M` are the lawful regions of n clocks at ceiling M, all of them, each once and in order: over any n and M.
 use Prim.Native.Nat.{ℕ, zero, suc, _≤_, _<_}
 use native.Mathlib.Omega.{arith}
 use native.Mathlib.Decide.{decLt}
@@ -6,14 +6,12 @@ use mathlib.Core.Path.{_≡_, refl, sym, ap, ap₂, _∙_, subst}
 use mathlib.Core.Bool.{true}
 use mathlib.Core.Logic.{_↔_, _⊎_, inl, inr}
 use mathlib.Core.List.{List, [], _∷_, _++_, map, List·Memᴰ, List·Memᴰ·cases-cons, List·Memᴰ·not-nil}
-use lib.Dec.{eqb}
 use lib.ListN.{length, getD, replicate}
-use Rattle.theory.specs.Lists.{every, from, flat, lists}
+use Rattle.theory.specs.Lists.{from, flat, lists}
 use Rattle.theory.specs.Pointwise.{none, more}
-use Rattle.theory.specs.Region.{Clock, Region, roundedUp, Fits, topRank, wholes, fits, lawful, clocks, regions}
-use Rattle.theory.specs.Enumeration.{ranks, key, Before, here, later, Sorted, Ascending, countOf}
-use Rattle.theory.proofs.Below.{eqb↔}
-use Rattle.theory.proofs.Lists.{every-law, map-law}
+use Rattle.theory.specs.Region.{Clock, Region, roundedUp, Fits, topRank, wholes, lawful, clocks, regions}
+use Rattle.theory.specs.Enumeration.{ranks, key, Before, here, later, Sorted, Ascending}
+use Rattle.theory.proofs.Lists.{map-law}
 use Rattle.theory.proofs.Region.{lawful-law}
 use Rattle.theory.proofs.Ranks.{top-in, ranks-few}
 use Rattle.theory.proofs.Sorted.{keep-law, flat-law, from-law, lists-length, in-lists, sorted-keep, sorted-map, sorted-flat, sorted-at, at-in, in-at}
@@ -174,14 +172,3 @@ index-once n M i j h k e = by (decLt i j) (decLt j i)
     by (yes q) d = absurd (before-self (sorted-at [] (regions-ascending n M) i j q k) (ap key e))
     by (no p) (yes q) = absurd (before-self (sorted-at [] (regions-ascending n M) j i q h) (ap key (sym e)))
     by (no p) (no q) = omega (arith, p, q)
-
--- ---- how many
-
-counts-right : every (λ n. every (λ M. eqb (countOf n M) (length (regions n M))) (from 1 4)) (from 1 3) ≡ true
-unfolding regions lawful fits
-counts-right = refl
-
-pub count-law : (n M : ℕ) → 1 ≤ n → n ≤ 3 → 1 ≤ M → M ≤ 4 → countOf n M ≡ length (regions n M)
-count-law n M a b c d =
-    every-law (λ n. every-law (λ M. eqb↔ (countOf n M) (length (regions n M))) (from 1 4)) (from 1 3) .0 counts-right
-    n (from-law 1 3 n .1 (a, omega arith)) M (from-law 1 4 M .1 (c, omega arith))

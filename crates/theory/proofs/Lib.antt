@@ -37,8 +37,10 @@ pub mod Ranks
 pub mod RegionSteps
 -- Members and order of lists that are put together.
 pub mod Sorted
--- The list of all regions: lawful, complete, ascending; 01's counts.
+-- The list of all regions: lawful, complete, ascending.
 pub mod Enumeration
+-- 01's counts of regions, over any ceiling.
+pub mod RegionCount
 -- The bench's cases on regions, computed.
 pub mod RegionExamples
 -- Some shift rounds all entry times of a run well.

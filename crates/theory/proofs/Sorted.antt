@@ -40,6 +40,14 @@ module _ {A : Type 0} (p : A → Bool) where
   pub keep-law : (x : A) (l : List A) → List·Memᴰ x (keep p l) ↔ (List·Memᴰ x l × (p x ≡ true))
   keep-law x l = (keep-in l, λ (m, t). in-keep m t)
 
+  pub keep-append : (a b : List A) → keep p (a ++ b) ≡ keep p a ++ keep p b
+  keep-append [] b = refl
+  keep-append (x ∷ a) b = ap (λ (l : List A). cond (p x) (x ∷ l) l) (keep-append a b) ∙ cond-append (p x) (keep p a)
+    where
+      cond-append : (t : Bool) (l : List A) → cond t (x ∷ (l ++ keep p b)) (l ++ keep p b) ≡ cond t (x ∷ l) l ++ keep p b
+      cond-append true l = refl
+      cond-append false l = refl
+
 module _ {A : Type 0} where
   flat-in : {x : A} (ls : List (List A)) → List·Memᴰ x (flat ls) → (l : List A) × List·Memᴰ l ls × List·Memᴰ x l
   flat-in [] m = absurd (List·Memᴰ·not-nil m)
