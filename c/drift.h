@@ -11,8 +11,8 @@
  * and the rest untouched; earlier, untouched. Output is untouched on refusal.
  *
  * A call allocates nothing, keeps nothing and may run beside others on other
- * memory. Its tables take some 400 KB of the stack, which matters to threads
- * with small stacks. */
+ * memory. Its tables live on the stack, which matters to threads with small
+ * stacks: docs/ARCHITECTURE.md has their size. */
 #ifndef DRIFT_H
 #define DRIFT_H
 

@@ -24,7 +24,7 @@ use Rattle.replay.specs.declared.read.Reading.the-variants as reading
 
 -- ---- reading
 
--- the refusal of what was read, 0 where nothing was refused; of a number it is the model's `numberRefusal`
+-- the refusal of what was read, 0 where nothing was refused; of a number it is `numberRefusal` of crate number
 abbrev pub threeRefusal : Three → ℕ
 threeRefusal (three.Numbers a b c p) = 0
 threeRefusal (three.Refused r) = r
