@@ -137,3 +137,36 @@ fn evidence_cases_are_those_stored() {
     let printed = include_str!("../../../crates/evidence_cases/stdout");
     assert_eq!(printed, answers(stored, SCRATCH).unwrap());
 }
+
+/// What a reader over a piece of evidence gives, line by line: each number or
+/// the refusal with the place where it then stands, and the refusal once more.
+fn reader_lines(bytes: &[u8]) -> String {
+    let mut lines = String::from("bytes");
+    for byte in bytes {
+        lines += &format!(" {byte}");
+    }
+    lines.push('\n');
+    let mut at = 0;
+    while let Ok((number, next)) = number_at(bytes, at) {
+        at = next;
+        lines += &format!("{number} at {at}\n");
+    }
+    let refusal = number_at(bytes, at).unwrap_err();
+    lines + &format!("refused {refusal} at {at}\n").repeat(2)
+}
+
+/// In the stored input each piece stands after its length; the trail of the
+/// loop plan is one of them.
+#[test]
+fn reader_cases_are_answered_as_stored() {
+    let mut input = &include_bytes!("../../../crates/reader_cases/stdin")[..];
+    let mut pieces = Vec::new();
+    while let [length, rest @ ..] = input {
+        let (piece, after) = rest.split_at(usize::from(*length));
+        pieces.push(piece);
+        input = after;
+    }
+    assert!(pieces.contains(&&LOOP_TRAIL[..]));
+    let printed: String = pieces.into_iter().map(reader_lines).collect();
+    assert_eq!(include_str!("../../../crates/reader_cases/stdout"), printed);
+}

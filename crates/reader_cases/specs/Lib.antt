@@ -1,0 +1,2 @@
+-- What a reader that stands at an offset gives.
+pub mod Replied
