@@ -1,2 +1,0 @@
--- Every limit of a plan, and what follows from them.
-pub mod Limits

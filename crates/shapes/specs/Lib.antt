@@ -1,2 +1,0 @@
--- The tables by region in one slice.
-pub mod Layout
