@@ -1,90 +1,45 @@
 -- The walk along the flags, with the step back, is the least closed walk; at a system it is ours.
 use mathlib.Core.Path.{_≡_, refl, sym, ap, _∙_}
-use mathlib.Core.Bool.{Bool, true, false, cond, _&&_, true≢false}
-use mathlib.Core.Logic.{_⊎_, inl, inr}
+use mathlib.Core.Bool.{Bool, true, false, true≢false}
 use mathlib.Core.List.{List, [], _∷_, _++_}
-use Prim.Native.Nat.{ℕ, _+_, _≤_, _<_}
+use Prim.Native.Nat.{ℕ, _+_, _-_, _≤_, _<_}
 use native.Mathlib.Omega.{arith}
 use native.Mathlib.Numerals.{add-one}
 use native.Mathlib.Decide.{decLt}
-use lib.ListN.{length, getD, set, take}
+use lib.ListN.{length, set, take}
 use lib.Seq.{take-suc-set}
 use lib.Dec.{eqb}
-use borrow.Author.Tests.{eqb-true, ne-eqb}
+use borrow.Author.Tests.{eqb-true}
 use Rattle.theory.specs.Walk.{Walk, Inside, dist⁺, greedy}
 use Rattle.theory.specs.System.{System, Laws, OnClosedWalk, onClosedWalk}
 use Rattle.theory.specs.ClosedWalk.{closedWalkSteps, closedWalk}
-use Rattle.theory.specs.Adjacency.{Holds}
-use Rattle.theory.specs.Levels.{far, mark}
-use Rattle.theory.specs.Guide.{next, Flags, Along}
-use Rattle.theory.proofs.Below.{either}
+use Rattle.theory.specs.Adjacency.{Adjacent, Holds}
 use Rattle.theory.proofs.Walk.{exact-walk, dist-exact, dist⁺-exact}
 use Rattle.theory.proofs.System.{flow-inside, closed-walk-is, is-closed-walk}
 use Rattle.theory.proofs.ClosedWalk.{closed-walk-some, closed-walk-below}
-use Rattle.theory.proofs.Guide.{least-same, mark-le, along-first, along-step, along-last}
 use Rattle.theory.proofs.Return.{dist-return, greedy-return}
-use Rattle.closed_walk.specs.Limits.{flag}
-use Rattle.closed_walk.specs.Graph.{Closes}
+use Rattle.search.specs.Rounds.{Agrees}
+use Rattle.search.specs.Flags.{Aims, FlagsOf, Steered, Follows}
+use Rattle.search.proofs.Follow.{follows-last, steered-of}
+use Rattle.closed_walk.specs.Closes.{Closes}
 use Rattle.closed_walk.specs.Rounds.{back}
-use Rattle.closed_walk.specs.Flags.{onShortest, Flagged}
 
-module _ (S : ℕ) (r : ℕ → ℕ → Bool) (inside : Inside S r) (q : ℕ) (ql : q < S) where
-  -- the numbers as if every distance were found: with the flag they are the same
-  unfoldable whole : ℕ → ℕ
-  whole p = cond (onShortest S r q p) (far S r q p + 1 + flag) (mark S r q p)
+-- at the last node, and the step back
+pub trace-end : {first targets level path : List ℕ} {q K i p : ℕ} (steps : ℕ) → steps ≡ K + 1 → steps ≤ length level → length path ≡ length level
+    → Follows (Adjacent first targets) q K level path i p → i ≡ K
+    → (r : ℕ → ℕ → Bool) → Steered (Adjacent first targets) q K level r (λ p. r p q)
+    → take steps (set path i q) ≡ greedy (length level) r (λ x. eqb x q) steps q
+trace-end {level = level} {path = path} {q = q} {K = K} steps d few long F e r T =
+    let S = length level in
+    let x = dist-exact S r (λ x. r x q) (T .agrees .inside) q (omega (arith, T .few)) in
+    rw (d, e, add-one K)
+    (take-suc-set path K q (omega arith)
+    ∙ (ap (λ (m : List ℕ). m ++ (q ∷ [])) (follows-last (omega arith) F (omega arith) r (λ p. r p q) T)
+    ∙ sym (greedy-return S r (T .agrees .inside) q K q (rw (← T .few) at x))))
 
-  whole-on : (p : ℕ) → onShortest S r q p ≡ true → whole p ≡ far S r q p + 1 + flag
-  unfolding whole
-  whole-on p g = rw g
+-- ---- what is found
 
-  whole-off : (p : ℕ) → onShortest S r q p ≡ false → whole p ≡ mark S r q p
-  unfolding whole
-  whole-off p g = rw g
-
-  whole-flags : Flags S flag r (λ x. r x q) q 0 whole
-  whole-flags = record {
-    done = λ p b l g. whole-on p g;
-    wait = λ p b l. absurd (omega arith);
-    none = λ p b g. whole-off p g;
-  }
-
-  module _ {level : List ℕ} (wide : S < flag) (F : Flagged S r q level) where
-    next-same : (y p : ℕ) → next S r (y + flag) (λ s. getD level s 0) p ≡ next S r (y + flag) whole p
-    unfolding next
-    next-same y p =
-        least-same S (λ s. eqb (getD level s 0) (y + flag) && r p s) (λ s. eqb (whole s) (y + flag) && r p s)
-        (λ s b. ap (λ (t : Bool). t && r p s) (by s b (either (onShortest S r q s))))
-      where
-        by : (s : ℕ) → s < S → (onShortest S r q s ≡ true) ⊎ (onShortest S r q s ≡ false) → eqb (getD level s 0) (y + flag) ≡ eqb (whole s) (y + flag)
-        by s b (inl g) = ap (λ (n : ℕ). eqb n (y + flag)) (F .done s b g ∙ sym (whole-on s g))
-        by s b (inr g) =
-            let h = F .none s b g in
-            ne-eqb (getD level s 0) (y + flag) (λ e. omega arith)
-            ∙ sym (ne-eqb (whole s) (y + flag) (λ e. omega (arith, whole-off s g, mark-le S r q s)))
-
-    pub trace-step : {i p s : ℕ} {l : List ℕ} → back S r q < S → Along S r (λ x. r x q) q (back S r q) l i p → i < back S r q → i < length l
-        → s ≡ next S r (i + 2 + flag) (λ s. getD level s 0) p → Along S r (λ x. r x q) q (back S r q) (set l i s) (i + 1) s
-    trace-step {i} {p} {s} {l} short A h b e =
-        let z : i + 2 ≡ i + 1 + 1 = omega arith in
-        along-step S r inside (λ x. r x q) q ql flag wide short whole whole-flags (back S r q) i p s l (set l i s) refl A h b
-        (e ∙ (next-same (i + 2) p ∙ ap (λ (y : ℕ). next S r (y + flag) whole p) z)) refl
-
-  pub trace-first : {l : List ℕ} → back S r q < S → Along S r (λ x. r x q) q (back S r q) l 0 q
-  trace-first {l} short = along-first S r inside (λ x. r x q) q ql (back S r q) l refl short
-
-  -- at the last node, and the step back
-  pub trace-end : {i p : ℕ} {l : List ℕ} → back S r q < S → Along S r (λ x. r x q) q (back S r q) l i p → back S r q ≤ i → i < length l
-      → take (back S r q + 1) (set l i q) ≡ greedy S r (λ x. eqb x q) (back S r q + 1) q
-  trace-end {i} {p} {l} short A h b =
-      let e : i ≡ back S r q = omega (arith, A .many) in
-      let c : back S r q < length l = omega arith in
-      rw (e, add-one (back S r q))
-      (take-suc-set l (back S r q) q c
-      ∙ (ap (λ (m : List ℕ). m ++ (q ∷ [])) (along-last S r inside (λ x. r x q) q ql (back S r q) i p l A h)
-      ∙ sym (greedy-return S r inside q (back S r q) q (dist-exact S r (λ x. r x q) inside q short))))
-
-  -- ---- what is found
-
+module _ (S : ℕ) (r : ℕ → ℕ → Bool) (inside : Inside S r) (q : ℕ) where
   pub closes-found : {steps : ℕ} {path : List ℕ} → back S r q < S → steps ≡ back S r q + 1
       → take steps path ≡ greedy S r (λ x. eqb x q) steps q → Closes S r q steps path
   closes-found short e h = record {
@@ -99,6 +54,19 @@ module _ (S : ℕ) (r : ℕ → ℕ → Bool) (inside : Inside S r) (q : ℕ) (q
     least = λ h. absurd (omega (arith, dist-return S r inside q q));
     none = λ _. refl;
   }
+
+-- the search, the flags and the walk along them
+pub walk-closes : {first targets level level′ : List ℕ} {S q steps y : ℕ} {r : ℕ → ℕ → Bool} → Agrees (length level) r q (Adjacent first targets)
+    → length level ≡ S
+    → ((r : ℕ → ℕ → Bool) → Agrees (length level) r q (Adjacent first targets)
+    → Aims (Adjacent first targets) (λ z. Adjacent first targets z q) q y level r (λ p. r p q))
+    → steps ≡ y → 0 < steps → FlagsOf (Adjacent first targets) (λ z. Adjacent first targets z q) q steps level level′ → (path : List ℕ)
+    → (Steered (Adjacent first targets) q (steps - 1) level′ r (λ p. r p q)
+    → take steps path ≡ greedy (length level′) r (λ x. eqb x q) steps q) → Closes S r q steps path
+walk-closes {level = level} {q = q} {steps = steps} {r = r} G k aims e z F path W =
+    let A = rw (← e) at (aims r G) in
+    let w = W (steered-of F (omega arith) r (λ p. r p q) A) in
+    rw (← k) (closes-found (length level) r (G .inside) q (A .short) (A .last) (rw (F .raised .long) at w))
 
 -- ---- at a system: our closed walk
 

@@ -1,67 +1,64 @@
 // The flags of the nodes on a shortest closed walk of q, from the last level down.
 
-ghost use mathlib.Core.Path.{_≡_};
-ghost use Prim.Native.Nat.{_+_, _≤_, _<_};
+ghost use Prim.Native.Nat.{ℕ, _≤_, _<_};
 ghost use lib.ListN.{length, getD};
-ghost use Rattle.closed_walk.specs.Limits.{stateLimit};
-ghost use Rattle.closed_walk.specs.Graph.{Rows, nodes, edge};
-ghost use Rattle.closed_walk.specs.Rounds.{back, Found};
-ghost use Rattle.closed_walk.specs.Flags.{aim, flagAt, Flagged};
-use super::list::next;
-use super::list::wide;
+ghost use Rattle.limits.specs.Limits.{maxStates};
+ghost use Rattle.theory.specs.Adjacency.{Adjacent};
+ghost use Rattle.search.specs.Rows.{Rows};
+ghost use Rattle.search.specs.Queue.{ByLevel};
+ghost use Rattle.search.specs.Flags.{Ahead, Tried, FlagsOf};
+use limits::LEVEL_FLAG;
+use limits::Word;
+use limits::cast::from_word;
+use search::leads_to;
+use search::least_row;
 
-// More than the number of any node.
-pub const FLAG: usize = 16384;
-
-// What a node with number y must have a step to, where x is the last level.
-fn aim(x: usize, y: usize) -> usize
-    requires { ⌜ y ≤ stateLimit ⌝ }
-    ensures { λ r. ⌜ r ≡ aim x y ⌝ }
-{
-    if y == x {
-        return 1;
-    }
-    y + 1 + FLAG
-}
-
-// The flag for p, if it can come back in time.
-fn flag_node(first: &[u32], targets: &[u16], far: &mut [u16], p: usize, x: usize)
+// The flag for p, if at the last level x it has a step to q, or at a level before a step to a node of the next level that has the flag.
+fn flag_node(first: &[u32], targets: &[Word], level: &mut [Word], q: usize, x: usize, p: usize)
     requires { ⌜
-        (p < nodes (now first)) × Rows (now first) (now targets) (nodes (now first)) × (length (now far) ≡ nodes (now first))
-        × (getD (now far) p 0 ≤ stateLimit)
+        (p < length (now level)) × (length (now level) ≤ maxStates) × (getD (now level) p 0 ≤ x) × (x ≤ maxStates)
+        × Rows (now first) (now targets) (length (now level))
         ⌝ }
     ensures { λ _. ⌜
-        now (far .exit) ≡ flagAt (nodes (now (first .entry))) (edge (now (first .entry)) (now (targets .entry))) x (now (far .entry)) p
+        Tried (Ahead (Adjacent (now (first .entry)) (now (targets .entry)))
+        (λ z. Adjacent (now (first .entry)) (now (targets .entry)) z q) x (now (level .entry))) p (now (level .entry)) (now (level .exit))
         ⌝ }
 {
-    let y = wide(far[p]);
-    if next(first, targets, far, p, aim(x, y)) < far.len() {
-        far[p] = (y + FLAG) as u16;
+    let y = from_word(level[p]);
+    if y < x {
+        if least_row(first, targets, level, y + 1 + LEVEL_FLAG, p) < level.len() {
+            level[p] = (y + LEVEL_FLAG) as Word;
+        }
+        return;
+    }
+    if leads_to(first, targets, p, q) {
+        level[p] = (y + LEVEL_FLAG) as Word;
     }
 }
 
-// The flag for each node of the queue that can come back in time to the first of them: those of the next level have theirs.
+// The same for each node of the queue, the last place first: those of the next level have their flags.
 pub fn flag_all(
     first: &[u32],
-    targets: &[u16],
-    far: &mut [u16],
-    queue: &[u16],
+    targets: &[Word],
+    level: &mut [Word],
+    queue: &[Word],
+    q: usize,
     end: usize,
     x: usize,
 )
     requires { ⌜
-        Rows (now first) (now targets) (nodes (now first))
-        × (x ≡ back (nodes (now first)) (edge (now first) (now targets)) (getD (now queue) 0 0) + 1)
-        × Found (nodes (now first)) (edge (now first) (now targets)) (getD (now queue) 0 0) (now far) (now queue) end
+        (x ≤ maxStates) × ((p : ℕ) → p < length (now level) → getD (now level) p 0 ≤ x)
+        × ByLevel (now level) (now queue) end × Rows (now first) (now targets) (length (now level))
         ⌝ }
     ensures { λ _. ⌜
-        Flagged (nodes (now (first .entry))) (edge (now (first .entry)) (now (targets .entry))) (getD (now (queue .entry)) 0 0) (now (far .exit))
+        FlagsOf (Adjacent (now (first .entry)) (now (targets .entry)))
+        (λ z. Adjacent (now (first .entry)) (now (targets .entry)) z q) q x (now (level .entry)) (now (level .exit))
         ⌝ }
 {
     let mut i = end;
     while 0 < i {
         i -= 1;
-        let p = wide(queue[i]);
-        flag_node(first, targets, far, p, x);
+        let p = from_word(queue[i]);
+        flag_node(first, targets, level, q, x, p);
     }
 }

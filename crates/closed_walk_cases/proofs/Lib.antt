@@ -1,2 +1,1 @@
--- A test that computes the shape of small arrays.
-pub mod Tests
+-- The proofs need no laws of their own.

@@ -1,10 +1,11 @@
 // Closed walks in graphs of six nodes, worked out by hand. A line each: the fewest steps, then the nodes that the walk comes to; 0 where there is none.
 
 ghost use Prim.Native.Nat.{_<_};
-ghost use Rattle.closed_walk.specs.Graph.{Rows};
+ghost use Rattle.search.specs.Rows.{Rows};
 use libc::STDOUT_FILENO;
+use limits::Word;
 
-fn wide(x: u16) -> u64 {
+fn wide(x: Word) -> u64 {
     x as u64
 }
 
@@ -15,7 +16,7 @@ fn show(before: u8, number: u64) {
 }
 
 // The first `steps` of the nodes.
-fn show_walk(path: &[u16], steps: usize) {
+fn show_walk(path: &[Word], steps: usize) {
     let mut i = 0;
     while i < path.len() {
         if i < steps {
@@ -25,13 +26,13 @@ fn show_walk(path: &[u16], steps: usize) {
     }
 }
 
-fn case(first: &[u32], targets: &[u16], q: usize)
+fn case(first: &[u32], targets: &[Word], q: usize)
     requires { ⌜ (q < 6) × Rows (now first) (now targets) 6 ⌝ }
 {
-    let mut far = [7u16; 6];
+    let mut level = [7u16; 6];
     let mut queue = [7u16; 6];
     let mut path = [7u16; 6];
-    let steps = closed_walk::closed_walk(first, targets, q, &mut far, &mut queue, &mut path);
+    let steps = closed_walk::closed_walk(first, targets, q, &mut level, &mut queue, &mut path);
     io::print_decimal(STDOUT_FILENO, steps as u64);
     show_walk(&path, steps);
     let end = [b'\n'];

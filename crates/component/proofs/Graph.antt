@@ -10,7 +10,8 @@ use Rattle.theory.specs.Adjacency.{Adjacent, Holds}
 use Rattle.theory.proofs.Below.{and↔, leb↔, ltb↔, eqb↔, any-intro, any-elim}
 use Rattle.theory.proofs.System.{flow-inside}
 use Rattle.theory.proofs.SameFlow.{FlowIn}
-use Rattle.component.specs.Marks.{placeLimit, Shape}
+use Rattle.limits.specs.Limits.{maxSteps}
+use Rattle.component.specs.Marks.{Shape}
 use Rattle.component.specs.Graph.{adjacent, graphOf}
 
 module _ (first targets : List ℕ) where
@@ -41,7 +42,7 @@ module _ (first targets : List ℕ) where
       ascends-to zero p e = let z : p ≡ n = omega arith in rw z (omega arith)
       ascends-to (suc k) p e = omega (arith, H .ascends p (omega arith), ascends-to k (suc p) (omega arith))
 
-      pub first-few : (p : ℕ) → p ≤ n → getD first p 0 ≤ placeLimit
+      pub first-few : (p : ℕ) → p ≤ n → getD first p 0 ≤ maxSteps
       first-few p l = omega (arith, ascends-to (n - p) p (omega arith), H .few)
 
       -- the places of a node's successors are places of targets

@@ -12,7 +12,8 @@ use lib.ListN.{length, set, length-set}
 use lib.Seq.{getD-set-same, getD-set-other}
 use Rattle.theory.specs.System.{Reaches}
 use Rattle.theory.proofs.Component.{reach-join, reach-one}
-use Rattle.component.specs.Marks.{placeLimit, Shape}
+use Rattle.limits.specs.Limits.{maxSteps}
+use Rattle.component.specs.Marks.{Shape}
 use Rattle.component.specs.Graph.{graphOf}
 use Rattle.component.specs.Stack.{at, news, Open}
 use Rattle.component.specs.Scan.{Cursor, NewPlace}
@@ -229,7 +230,7 @@ module _ {first targets mark stack path start : List ℕ} {n top segs depth cur 
       more : i < at first (suc (at stack cur))
       more = omega (arith, end-is)
 
-      pub step-small : i < placeLimit
+      pub step-small : i < maxSteps
       step-small = omega (arith, first-few first targets n (P .shape) (suc (at stack cur)) cur-node, more)
 
       pub step-place : i < length targets

@@ -7,19 +7,12 @@ use Rattle.theory.specs.Below.{bit}
 use Rattle.theory.specs.System.{System, Laws, onClosedWalk}
 use Rattle.theory.specs.Height.{height}
 use Rattle.theory.specs.Adjacency.{Holds}
-
--- The most nodes: 8 locations of 1,977 regions each.
-abbrev pub nodeLimit : ℕ
-nodeLimit = 15816
-
--- The most places of successors: 16-bit numbers hold them. A model has at most 63,264: 1,977 for each of 8 locations and 24 edges.
-abbrev pub placeLimit : ℕ
-placeLimit = 65535
+use Rattle.limits.specs.Limits.{maxStates, maxSteps}
 
 -- the lists of some graph on the nodes below n
 pub record Shape (first targets : List ℕ) (n : ℕ) : Type 0 where
-  pub small : n ≤ nodeLimit
-  pub few : getD first n 0 ≤ placeLimit
+  pub small : n ≤ maxStates
+  pub few : getD first n 0 ≤ maxSteps
   pub long : length first ≡ suc n
   pub ascends : (p : ℕ) → p < n → getD first p 0 ≤ getD first (suc p) 0
   pub ends : getD first n 0 ≤ length targets

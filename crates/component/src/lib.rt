@@ -8,17 +8,13 @@ ghost use Prim.Native.Nat.{ℕ, suc, _+_, _-_, _≤_, _<_};
 ghost use lib.ListN.{length, set};
 ghost use lib.Dec.{ltb};
 ghost use Rattle.theory.specs.Below.{bit};
-ghost use Rattle.component.specs.Marks.{nodeLimit, placeLimit, Shape, Marks};
+ghost use Rattle.limits.specs.Limits.{maxStates, maxSteps};
+ghost use Rattle.component.specs.Marks.{Shape, Marks};
 ghost use Rattle.component.specs.Graph.{graphOf};
 ghost use Rattle.component.specs.Stack.{at as value};
 ghost use Rattle.component.specs.Scan.{Cursor, NewPlace, LowAt, Low, Merged, heightIn, MostAt, MostFrom, Most, Filled};
 ghost use Rattle.component.specs.Pass.{Entered, Pass, NoNew, Moved, Popped};
-
-// The most nodes: 8 locations of 1,977 regions each. Every number of the pass is then below 65,536.
-pub const MAX_NODES: usize = 15816;
-
-// The most places of successors, which 16-bit numbers hold.
-pub const MAX_PLACES: usize = 65535;
+use limits::Word;
 
 // How far the stack, the segments and the path reach, and the place of the current node, the path's last, on the stack.
 pub struct Tops {
@@ -29,7 +25,7 @@ pub struct Tops {
 }
 
 // The place of the first new successor of v at `from` or later, or the end of their places.
-fn new_place(first: &[u32], targets: &[u16], mark: &[u16], v: usize, from: usize) -> usize
+fn new_place(first: &[u32], targets: &[Word], mark: &[Word], v: usize, from: usize) -> usize
     requires { ⌜ Shape (now first) (now targets) (length (now mark)) × (v < length (now mark)) ⌝ }
     requires { ⌜ Cursor (now first) (now targets) (value (now mark)) v from ⌝ }
     ensures { λ r. ⌜ NewPlace (now (first .entry)) (now (targets .entry)) (value (now (mark .entry))) v r ⌝ }
@@ -47,7 +43,7 @@ fn new_place(first: &[u32], targets: &[u16], mark: &[u16], v: usize, from: usize
 }
 
 // The lower of low and the place of t on the stack.
-fn low_at(mark: &[u16], t: usize, low: usize) -> usize
+fn low_at(mark: &[Word], t: usize, low: usize) -> usize
     requires { ⌜ t < length (now mark) ⌝ }
     ensures { λ r. ⌜ LowAt (value (now (mark .entry))) t low r ⌝ }
 {
@@ -61,7 +57,7 @@ fn low_at(mark: &[u16], t: usize, low: usize) -> usize
 }
 
 // The lowest place on the stack of a successor of v, or top.
-fn low_succ(first: &[u32], targets: &[u16], mark: &[u16], v: usize, top: usize) -> usize
+fn low_succ(first: &[u32], targets: &[Word], mark: &[Word], v: usize, top: usize) -> usize
     requires { ⌜ Shape (now first) (now targets) (length (now mark)) × (v < length (now mark)) ⌝ }
     ensures { λ r. ⌜ Low (graphOf (now (first .entry)) (now (targets .entry)) (length (now (mark .entry)))) (value (now (mark .entry))) v top r ⌝ }
 {
@@ -76,7 +72,7 @@ fn low_succ(first: &[u32], targets: &[u16], mark: &[u16], v: usize, top: usize) 
 }
 
 // How many segments are left when those that start above w join that of w.
-fn merged(start: &[u16], segs: usize, w: usize) -> usize
+fn merged(start: &[Word], segs: usize, w: usize) -> usize
     requires { ⌜ (0 < segs) × (segs ≤ length (now start)) × (value (now start) 0 ≡ 0) ⌝ }
     ensures { λ r. ⌜ Merged (value (now (start .entry))) segs w r ⌝ }
 {
@@ -88,8 +84,8 @@ fn merged(start: &[u16], segs: usize, w: usize) -> usize
 }
 
 // The larger of h and one more than the height of t, if t is finished.
-fn height_at(mark: &[u16], n: usize, t: usize, h: usize) -> usize
-    requires { ⌜ (t < length (now mark)) × (n ≤ nodeLimit) ⌝ }
+fn height_at(mark: &[Word], n: usize, t: usize, h: usize) -> usize
+    requires { ⌜ (t < length (now mark)) × (n ≤ maxStates) ⌝ }
     ensures { λ r. ⌜ MostAt (value (now (mark .entry))) n t h r ⌝ }
 {
     let x = mark[t] as usize;
@@ -103,7 +99,14 @@ fn height_at(mark: &[u16], n: usize, t: usize, h: usize) -> usize
 }
 
 // The same over all successors of v.
-fn height_from(first: &[u32], targets: &[u16], mark: &[u16], n: usize, v: usize, h: usize) -> usize
+fn height_from(
+    first: &[u32],
+    targets: &[Word],
+    mark: &[Word],
+    n: usize,
+    v: usize,
+    h: usize,
+) -> usize
     requires { ⌜ Shape (now first) (now targets) n × (length (now mark) ≡ n) × (v < n) ⌝ }
     ensures { λ r. ⌜ MostFrom (graphOf (now (first .entry)) (now (targets .entry)) n) n (value (now (mark .entry))) v h r ⌝ }
 {
@@ -120,9 +123,9 @@ fn height_from(first: &[u32], targets: &[u16], mark: &[u16], n: usize, v: usize,
 // The same over the nodes at the places a .. top of the stack.
 fn height_of(
     first: &[u32],
-    targets: &[u16],
-    mark: &[u16],
-    stack: &[u16],
+    targets: &[Word],
+    mark: &[Word],
+    stack: &[Word],
     n: usize,
     a: usize,
     top: usize,
@@ -142,7 +145,7 @@ fn height_of(
 }
 
 // x as the mark of the nodes at the places a .. top of the stack.
-fn fill(mark: &mut [u16], stack: &[u16], a: usize, top: usize, x: u16)
+fn fill(mark: &mut [Word], stack: &[Word], a: usize, top: usize, x: Word)
     requires { ⌜ (a ≤ top) × (top ≤ length (now stack)) × ((p : ℕ) → p < top → value (now stack) p < length (now mark)) ⌝ }
     ensures { λ r. ⌜ Filled (value (now (mark .entry))) (value (now (mark .exit))) (value (now (stack .entry))) a top x ⌝ }
 {
@@ -157,15 +160,15 @@ fn fill(mark: &mut [u16], stack: &[u16], a: usize, top: usize, x: u16)
 // t on the stack and on the path, as a segment of its own, none of its successors passed.
 fn push(
     first: &[u32],
-    mark: &mut [u16],
-    stack: &mut [u16],
-    path: &mut [u16],
-    start: &mut [u16],
+    mark: &mut [Word],
+    stack: &mut [Word],
+    path: &mut [Word],
+    start: &mut [Word],
     at: Tops,
     t: usize,
 ) -> Tops
     requires { ⌜ (t < length (now mark)) × (at .top < length (now stack)) × (at .depth < length (now path)) × (at .segs < length (now start)) ⌝ }
-    requires { ⌜ (at .top < nodeLimit) × (t < nodeLimit) × (t < length (now first)) × (value (now first) t ≤ placeLimit) ⌝ }
+    requires { ⌜ (at .top < maxStates) × (t < maxStates) × (t < length (now first)) × (value (now first) t ≤ maxSteps) ⌝ }
     ensures { λ r. ⌜ (r .top ≡ at .top + 1) × (r .segs ≡ at .segs + 1) × (r .depth ≡ at .depth + 1) × (r .cur ≡ at .top) ⌝ }
     ensures { λ r. ⌜ (now (mark .exit) ≡ set (now (mark .entry)) t (at .top + 1))
         × (now (stack .exit) ≡ set (now (stack .entry)) (at .top) t)
@@ -175,10 +178,10 @@ fn push(
     let top = at.top;
     let segs = at.segs;
     let depth = at.depth;
-    mark[t] = (top + 1) as u16;
-    stack[top] = t as u16;
-    path[depth] = first[t] as u16;
-    start[segs] = top as u16;
+    mark[t] = (top + 1) as Word;
+    stack[top] = t as Word;
+    path[depth] = first[t] as Word;
+    start[segs] = top as Word;
     Tops {
         top: top + 1,
         segs: segs + 1,
@@ -198,9 +201,9 @@ fn flag(w: usize, top: usize) -> usize
 // place of the node before it on the path.
 fn pop(
     first: &[u32],
-    targets: &[u16],
-    mark: &mut [u16],
-    stack: &[u16],
+    targets: &[Word],
+    mark: &mut [Word],
+    stack: &[Word],
     n: usize,
     at: Tops,
     w: usize,
@@ -217,7 +220,7 @@ fn pop(
     let top = at.top;
     let h = height_of(first, targets, mark, stack, n, at.cur, top);
     let x = n + 1 + (2 * h + flag(w, top));
-    fill(mark, stack, at.cur, top, x as u16);
+    fill(mark, stack, at.cur, top, x as Word);
     Tops {
         top: at.cur,
         segs: at.segs - 1,
@@ -227,7 +230,7 @@ fn pop(
 }
 
 // The place on the stack of the node before the last of the path: the first stands at place 0, each other is the successor that was passed last.
-fn place_before(targets: &[u16], mark: &[u16], path: &[u16], last: usize) -> usize
+fn place_before(targets: &[Word], mark: &[Word], path: &[Word], last: usize) -> usize
     requires { ⌜ (last ≤ length (now path)) × ((i : ℕ) → i + 2 ≡ last → Entered (now targets) (now mark) (now path) i) ⌝ }
     ensures { λ r. ⌜ (last < 2 → r ≡ 0) ⌝ }
     ensures { λ r. ⌜ ((i : ℕ) → i + 2 ≡ last
@@ -244,11 +247,11 @@ fn place_before(targets: &[u16], mark: &[u16], path: &[u16], last: usize) -> usi
 // Back from the current node, which has no new successor.
 fn retreat(
     first: &[u32],
-    targets: &[u16],
-    mark: &mut [u16],
-    stack: &[u16],
-    path: &[u16],
-    start: &[u16],
+    targets: &[Word],
+    mark: &mut [Word],
+    stack: &[Word],
+    path: &[Word],
+    start: &[Word],
     n: usize,
     at: Tops,
 ) -> Tops
@@ -285,11 +288,11 @@ fn retreat(
 // One step of the pass: on to a new node, or back.
 fn advance(
     first: &[u32],
-    targets: &[u16],
-    mark: &mut [u16],
-    stack: &mut [u16],
-    path: &mut [u16],
-    start: &mut [u16],
+    targets: &[Word],
+    mark: &mut [Word],
+    stack: &mut [Word],
+    path: &mut [Word],
+    start: &mut [Word],
     n: usize,
     at: Tops,
 ) -> Tops
@@ -304,7 +307,7 @@ fn advance(
     let v = stack[cur] as usize;
     let i = new_place(first, targets, mark, v, path[last] as usize);
     if i < first[v + 1] as usize {
-        path[last] = (i + 1) as u16;
+        path[last] = (i + 1) as Word;
         push(first, mark, stack, path, start, at, targets[i] as usize)
     } else {
         retreat(first, targets, mark, stack, path, start, n, at)
@@ -314,11 +317,11 @@ fn advance(
 // Steps until the path is empty.
 fn drain(
     first: &[u32],
-    targets: &[u16],
-    mark: &mut [u16],
-    stack: &mut [u16],
-    path: &mut [u16],
-    start: &mut [u16],
+    targets: &[Word],
+    mark: &mut [Word],
+    stack: &mut [Word],
+    path: &mut [Word],
+    start: &mut [Word],
     n: usize,
     from: Tops,
 )
@@ -336,11 +339,11 @@ fn drain(
 // From a new node to all that it reaches.
 fn explore(
     first: &[u32],
-    targets: &[u16],
-    mark: &mut [u16],
-    stack: &mut [u16],
-    path: &mut [u16],
-    start: &mut [u16],
+    targets: &[Word],
+    mark: &mut [Word],
+    stack: &mut [Word],
+    path: &mut [Word],
+    start: &mut [Word],
     n: usize,
     root: usize,
 )
@@ -363,11 +366,11 @@ fn explore(
 // The same unless s was reached before.
 fn explore_new(
     first: &[u32],
-    targets: &[u16],
-    mark: &mut [u16],
-    stack: &mut [u16],
-    path: &mut [u16],
-    start: &mut [u16],
+    targets: &[Word],
+    mark: &mut [Word],
+    stack: &mut [Word],
+    path: &mut [Word],
+    start: &mut [Word],
     n: usize,
     s: usize,
 )
@@ -385,11 +388,11 @@ fn explore_new(
 // From each node in turn.
 fn explore_all(
     first: &[u32],
-    targets: &[u16],
-    mark: &mut [u16],
-    stack: &mut [u16],
-    path: &mut [u16],
-    start: &mut [u16],
+    targets: &[Word],
+    mark: &mut [Word],
+    stack: &mut [Word],
+    path: &mut [Word],
+    start: &mut [Word],
     n: usize,
 )
     requires { ⌜ Pass (now first) (now targets) n (now mark) (now stack) (now path) (now start) 0 0 0 0 ⌝ }
@@ -404,7 +407,7 @@ fn explore_all(
     }
 }
 
-fn clear(mark: &mut [u16])
+fn clear(mark: &mut [Word])
     ensures { λ r. ⌜ ((s : ℕ) → s < length (now (mark .entry)) → value (now (mark .exit)) s ≡ 0) ⌝ }
 {
     let mut s = 0;
@@ -415,11 +418,11 @@ fn clear(mark: &mut [u16])
 }
 
 // The marks of the finished nodes as 2h + c.
-fn settle(mark: &mut [u16], n: usize)
-    requires { ⌜ (n ≤ nodeLimit) × (length (now mark) ≡ n) × ((s : ℕ) → s < n → n < value (now mark) s) ⌝ }
+fn settle(mark: &mut [Word], n: usize)
+    requires { ⌜ (n ≤ maxStates) × (length (now mark) ≡ n) × ((s : ℕ) → s < n → n < value (now mark) s) ⌝ }
     ensures { λ r. ⌜ ((s : ℕ) → s < n → value (now (mark .exit)) s ≡ value (now (mark .entry)) s - (n + 1)) ⌝ }
 {
-    let base = (n + 1) as u16;
+    let base = (n + 1) as Word;
     let mut s = 0;
     while s < n {
         mark[s] -= base;
@@ -431,11 +434,11 @@ fn settle(mark: &mut [u16], n: usize)
 // matter; what stack, path and start hold afterwards is left over from the pass and means nothing.
 pub fn components(
     first: &[u32],
-    targets: &[u16],
-    mark: &mut [u16],
-    stack: &mut [u16],
-    path: &mut [u16],
-    start: &mut [u16],
+    targets: &[Word],
+    mark: &mut [Word],
+    stack: &mut [Word],
+    path: &mut [Word],
+    start: &mut [Word],
     n: usize,
 )
     requires { ⌜ Shape (now first) (now targets) n ⌝ }

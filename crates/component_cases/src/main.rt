@@ -1,12 +1,13 @@
 // The pass on small graphs, whose marks are worked out in the comments, and on a graph of the largest size, of which nothing is printed.
 
-use component::MAX_NODES;
-use component::MAX_PLACES;
+use limits::MAX_STATES;
+use limits::MAX_STEPS;
 ghost use mathlib.Core.Path.{_≡_};
 ghost use mathlib.Core.Bool.{true};
 ghost use Prim.Native.Nat.{ℕ, _+_, _≤_, _<_};
 ghost use lib.ListN.{getD, length};
-ghost use Rattle.component.specs.Marks.{nodeLimit, Shape};
+ghost use Rattle.limits.specs.Limits.{maxStates};
+ghost use Rattle.component.specs.Marks.{Shape};
 
 fn ascending(first: &[u32], n: usize) -> bool
     requires { ⌜ length (now first) ≡ n + 1 ⌝ }
@@ -40,14 +41,14 @@ fn all_below(targets: &[u16], end: usize, n: usize) -> bool
 fn shaped(first: &[u32], targets: &[u16], n: usize) -> bool
     ensures { λ r. ⌜ (r ≡ true → Shape (now (first .entry)) (now (targets .entry)) n) ⌝ }
 {
-    if MAX_NODES < n {
+    if MAX_STATES < n {
         return false;
     }
     if first.len() != n + 1 {
         return false;
     }
     let end = first[n] as usize;
-    if MAX_PLACES < end {
+    if MAX_STEPS < end {
         return false;
     }
     if targets.len() < end {
@@ -120,7 +121,7 @@ fn run(name: &[u8], first: &[u32], targets: &[u16], n: usize, dirt: u16)
 
 // Four places for each node.
 fn place(first: &mut [u32], n: usize)
-    requires { ⌜ (n ≤ nodeLimit) × (length (now first) ≡ n + 1) ⌝ }
+    requires { ⌜ (n ≤ maxStates) × (length (now first) ≡ n + 1) ⌝ }
 {
     let mut p = 0;
     while p <= n {
@@ -131,7 +132,7 @@ fn place(first: &mut [u32], n: usize)
 
 // Nodes scattered over all n.
 fn scatter(targets: &mut [u16], n: usize)
-    requires { ⌜ (0 < n) × (n ≤ nodeLimit) ⌝ }
+    requires { ⌜ (0 < n) × (n ≤ maxStates) ⌝ }
 {
     let mut seed = 1;
     let mut i = 0;
@@ -143,14 +144,14 @@ fn scatter(targets: &mut [u16], n: usize)
 }
 
 fn large() {
-    let mut first = [0; MAX_NODES + 1];
-    let mut targets = [0; 4 * MAX_NODES];
-    place(&mut first, MAX_NODES);
-    scatter(&mut targets, MAX_NODES);
-    let mut mark = [0; MAX_NODES];
-    let mut stack = [0; MAX_NODES];
-    let mut path = [0; MAX_NODES];
-    let mut start = [0; MAX_NODES];
+    let mut first = [0; MAX_STATES + 1];
+    let mut targets = [0; 4 * MAX_STATES];
+    place(&mut first, MAX_STATES);
+    scatter(&mut targets, MAX_STATES);
+    let mut mark = [0; MAX_STATES];
+    let mut stack = [0; MAX_STATES];
+    let mut path = [0; MAX_STATES];
+    let mut start = [0; MAX_STATES];
     marks(
         &first,
         &targets,
@@ -158,7 +159,7 @@ fn large() {
         &mut stack,
         &mut path,
         &mut start,
-        MAX_NODES,
+        MAX_STATES,
     );
 }
 

@@ -20,17 +20,19 @@ use Rattle.model.specs.Parse.{fieldAt, kindAt, invariantAt, endsAt, guardAt, pa
 use Rattle.model.specs.Cycle.{markEdge, roundOf, survivors, hasCycle, unreset}
 use Rattle.model.specs.Accept.{readModel}
 use Rattle.graph.specs.Plan.{automatonOf}
-use Rattle.sheet.specs.Numbers.{numberKeeps, numbersFrom}
+use Rattle.evidence_number.specs.Evidence.{readEvidence}
+use Rattle.sheet_numbers.specs.Numbers.{numberKeeps, numbersFrom}
 use Rattle.sheet.specs.Answer.{sheetRefusal}
+use Rattle.trail_numbers.specs.Numbers.{labelAt, numbersAt}
 use Rattle.replay.specs.Spelling.{movesNumbers, trailNumbers}
-use Rattle.replay.specs.Trail.{run, flowTo, labelAt, walkStep, closedWalk, numbersAt, faceTo, touchTo, trailStep, trailAnswer}
+use Rattle.replay.specs.Trail.{run, flowTo, walkStep, closedWalk, faceTo, touchTo, trailStep, trailAnswer}
 use Rattle.evidence.specs.Evidence.{ofKind, checked}
 use Rattle.evidence.specs.Ours.{ourSheetNumbers, ourTrailNumbers, ourEvidence}
 use Rattle.number.specs.Answer.{answer}
-use Rattle.drift.specs.Call.{enough, refusal}
-use Rattle.drift.specs.Check.{told, checkAnswer}
+use Rattle.call.specs.Call.{enough, refusal}
+use Rattle.op_check.specs.Check.{evidenceAnswer, checkAnswer}
 use Rattle.demands.specs.Bench.{samePoints, holds, bench}
 
 pub bench-holds : every holds bench ≡ true
-unfolding holds bench samePoints same regions lawful fits attains corners hasCorner face shares allowed guardHolds regionCount locationOf regionOf sameRegion indexIn numberOf allowedState stateAt timeFrom jumpFrom stepFrom beside flowTest systemOf labelledOf tab any all least top exact within dist greedy reach onClosedWalk step marks unsafe under chain height keeps number ourSheet trailSteps trailStates opens movesAlong ourMoves readNumber spell spellAll each fieldAt kindAt invariantAt endsAt guardAt parseBody parseCounts parseModel markEdge roundOf survivors hasCycle unreset readModel automatonOf numberKeeps numbersFrom sheetRefusal movesNumbers trailNumbers run flowTo labelAt walkStep closedWalk numbersAt faceTo touchTo trailStep trailAnswer ofKind checked ourSheetNumbers ourTrailNumbers ourEvidence answer enough refusal told checkAnswer
+unfolding holds bench samePoints same regions lawful fits attains corners hasCorner face shares allowed guardHolds regionCount locationOf regionOf sameRegion indexIn numberOf allowedState stateAt timeFrom jumpFrom stepFrom beside flowTest systemOf labelledOf tab any all least top exact within dist greedy reach onClosedWalk step marks unsafe under chain height keeps number ourSheet trailSteps trailStates opens movesAlong ourMoves readEvidence readNumber spell spellAll each fieldAt kindAt invariantAt endsAt guardAt parseBody parseCounts parseModel markEdge roundOf survivors hasCycle unreset readModel automatonOf numberKeeps numbersFrom sheetRefusal movesNumbers trailNumbers run flowTo labelAt walkStep closedWalk numbersAt faceTo touchTo trailStep trailAnswer ofKind checked ourSheetNumbers ourTrailNumbers ourEvidence answer enough refusal evidenceAnswer checkAnswer
 bench-holds = refl

@@ -40,26 +40,27 @@ use Rattle.evidence.proofs.Answers.{sheet-passes, trail-passes, refusal-above}
 use Rattle.evidence.proofs.Ours.{our-sheet, our-trail}
 use Rattle.evidence_writer.specs.Written.{evidenceIn, verdictWith, writtenFor}
 use Rattle.number.specs.Answer.{Answer}
-use Rattle.drift.specs.Call.{modelOf, refusal}
-use Rattle.drift.specs.Check.{told, checkAnswer}
-use Rattle.drift.specs.Write.{writeAnswer, writeOutput}
+use Rattle.call.specs.Call.{modelOf, refusal}
+use Rattle.op_check.specs.Check.{evidenceAnswer, checkAnswer}
+use Rattle.op_write.specs.Write.{writtenAnswer, writeAnswer, writeOutput}
 use Rattle.demands.specs.Told.{kindAnswer}
-use Rattle.drift.proofs.Calls.{accepted, check-done, write-done, write-output}
+use Rattle.call.proofs.Calls.{accepted}
+use Rattle.op_check.proofs.Check.{check-done}
+use Rattle.op_write.proofs.Write.{write-done, write-output}
 use Rattle.evidence.specs.declared.Evidence.the-variants as evidence
 use Rattle.evidence_writer.specs.declared.Written.the-variants as written
-use Rattle.drift.specs.Write as toldWrite
 
-told-sheet : (e : Evidence) → told e ≡ kindAnswer 1 → e ≡ evidence.Sheet
-unfolding told
-told-sheet evidence.Sheet h = refl
-told-sheet evidence.Trail h = absurd (omega (arith, ap (λ (a : Answer). getD (a .values) 0 0) h))
-told-sheet (evidence.Refused r) h = absurd (omega (arith, ap (λ (a : Answer). getD (a .values) 0 0) h))
+answer-sheet : (e : Evidence) → evidenceAnswer e ≡ kindAnswer 1 → e ≡ evidence.Sheet
+unfolding evidenceAnswer
+answer-sheet evidence.Sheet h = refl
+answer-sheet evidence.Trail h = absurd (omega (arith, ap (λ (a : Answer). getD (a .values) 0 0) h))
+answer-sheet (evidence.Refused r) h = absurd (omega (arith, ap (λ (a : Answer). getD (a .values) 0 0) h))
 
-told-trail : (e : Evidence) → told e ≡ kindAnswer 2 → e ≡ evidence.Trail
-unfolding told
-told-trail evidence.Sheet h = absurd (omega (arith, ap (λ (a : Answer). getD (a .values) 0 0) h))
-told-trail evidence.Trail h = refl
-told-trail (evidence.Refused r) h = absurd (omega (arith, ap (λ (a : Answer). getD (a .values) 0 0) h))
+answer-trail : (e : Evidence) → evidenceAnswer e ≡ kindAnswer 2 → e ≡ evidence.Trail
+unfolding evidenceAnswer
+answer-trail evidence.Sheet h = absurd (omega (arith, ap (λ (a : Answer). getD (a .values) 0 0) h))
+answer-trail evidence.Trail h = refl
+answer-trail (evidence.Refused r) h = absurd (omega (arith, ap (λ (a : Answer). getD (a .values) 0 0) h))
 
 module _ (bytes lent : List ℕ) (taken : refusal bytes lent ≡ 0) where
   abbrev m : Model
@@ -78,34 +79,34 @@ module _ (bytes lent : List ℕ) (taken : refusal bytes lent ≡ 0) where
 
   -- it answers 1 exactly where the bytes spell, with nothing after, a sheet that keeps every rule
   pub sheet-exactly : (shown : List ℕ) → (checkAnswer bytes shown lent ≡ kindAnswer 1) ↔ SheetPasses m shown
-  unfolding told
+  unfolding evidenceAnswer
   sheet-exactly shown =
-      let done = check-done bytes lent taken shown in (
-        λ e. sheet-passes m shown ok .0 (told-sheet (checked m shown) (sym done ∙ e)),
-        λ p. done ∙ ap told (sheet-passes m shown ok .1 p),
+      let done = check-done bytes shown lent taken in (
+        λ e. sheet-passes m shown ok .0 (answer-sheet (checked m shown) (sym done ∙ e)),
+        λ p. done ∙ ap evidenceAnswer (sheet-passes m shown ok .1 p),
       )
 
   -- it answers 2 exactly where they spell a trail whose steps all replay and which ends in a forbidden location
   pub trail-exactly : (shown : List ℕ) → (checkAnswer bytes shown lent ≡ kindAnswer 2) ↔ TrailPasses m shown
-  unfolding told
+  unfolding evidenceAnswer
   trail-exactly shown =
-      let done = check-done bytes lent taken shown in (
-        λ e. trail-passes m shown ok .0 (told-trail (checked m shown) (sym done ∙ e)),
-        λ p. done ∙ ap told (trail-passes m shown ok .1 p),
+      let done = check-done bytes shown lent taken in (
+        λ e. trail-passes m shown ok .0 (answer-trail (checked m shown) (sym done ∙ e)),
+        λ p. done ∙ ap evidenceAnswer (trail-passes m shown ok .1 p),
       )
 
   -- 01: "For an accepted model and enough scratch the check returns 0 exactly then."
   pub zero-exactly : (shown : List ℕ) → (checkAnswer bytes shown lent .number ≡ 0) ↔ (SheetPasses m shown ⊎ TrailPasses m shown)
-  unfolding told
+  unfolding evidenceAnswer
   zero-exactly shown = (
     λ z. by (checked m shown) refl (ap (λ (a : Answer). a .number) (sym done) ∙ z),
     ⊎-elim (λ p. ap (λ (a : Answer). a .number) (sheet-exactly shown .1 p)) (λ p. ap (λ (a : Answer). a .number) (trail-exactly shown .1 p)),
   )
     where
-      done : checkAnswer bytes shown lent ≡ told (checked m shown)
-      done = check-done bytes lent taken shown
+      done : checkAnswer bytes shown lent ≡ evidenceAnswer (checked m shown)
+      done = check-done bytes shown lent taken
 
-      by : (e : Evidence) → checked m shown ≡ e → told e .number ≡ 0 → SheetPasses m shown ⊎ TrailPasses m shown
+      by : (e : Evidence) → checked m shown ≡ e → evidenceAnswer e .number ≡ 0 → SheetPasses m shown ⊎ TrailPasses m shown
       by evidence.Sheet c z = inl (sheet-passes m shown ok .0 c)
       by evidence.Trail c z = inr (trail-passes m shown ok .0 c)
       by (evidence.Refused r) c z = absurd (omega (arith, refusal-above m shown ok r c))
@@ -194,20 +195,20 @@ module _ (bytes lent out : List ℕ) where
   pub writes : refusal bytes lent ≡ 0 → length ours ≤ length out
       → (writeAnswer bytes lent (length out) ≡ record { number = 0; values = bit (unsafe (systemOfModel (modelOf bytes))) ∷ length ours ∷ [] })
       × (writeOutput bytes lent out ≡ ours ++ drop (length ours) out)
-  unfolding toldWrite.told writtenFor verdictWith evidenceIn
+  unfolding writtenAnswer writtenFor verdictWith evidenceIn
   writes taken h = (
     write-done bytes lent taken (length out) ∙ simp (le-ltb (length out) (length ours) h) (by (unsafe (systemOfModel (modelOf bytes)))),
     write-output bytes lent taken out ∙ simp (le-ltb (length out) (length ours) h) refl,
   )
     where
-      by : (bad : Bool) → toldWrite.told (cond bad (written.Unsafe (length ours)) (written.Safe (length ours))) ≡ record { number = 0; values = bit bad ∷ length ours ∷ [] }
+      by : (bad : Bool) → writtenAnswer (cond bad (written.Unsafe (length ours)) (written.Safe (length ours))) ≡ record { number = 0; values = bit bad ∷ length ours ∷ [] }
       by true = refl
       by false = refl
 
   -- 9 where there is no room for it, and the output stays as it was
   pub writes-nothing : refusal bytes lent ≡ 0 → length out < length ours
       → (writeAnswer bytes lent (length out) ≡ record { number = 9; values = [] }) × (writeOutput bytes lent out ≡ out)
-  unfolding toldWrite.told writtenFor verdictWith evidenceIn
+  unfolding writtenAnswer writtenFor verdictWith evidenceIn
   writes-nothing taken h = (
     write-done bytes lent taken (length out) ∙ simp (lt-ltb (length out) (length ours) h) refl,
     write-output bytes lent taken out ∙ simp (lt-ltb (length out) (length ours) h) refl,

@@ -25,13 +25,13 @@ use Rattle.model.proofs.Accepted.{accepted-resets}
 use Rattle.graph.specs.Plan.{automatonOf, systemOfModel, labelledOfModel}
 use Rattle.graph.proofs.Models.{system-laws}
 use Rattle.robust.specs.Robust.{RobustlySafe, Fragile}
-use Rattle.robust.specs.Margin.{margin}
+use Rattle.robust.specs.Margin.{margin, maxMargin}
 use Rattle.robust_models.proofs.Models.{safe-forever, sheet-forever, trail-fragile, verdict-right, margin-uniform}
-use Rattle.drift.specs.Call.{modelOf, statesOf, refusal}
-use Rattle.drift.specs.Judge.{judged}
-use Rattle.drift.specs.Check.{checkAnswer}
-use Rattle.drift.specs.Margin.{marginAnswer}
-use Rattle.drift.proofs.Calls.{taken-in, accepted}
+use Rattle.call.specs.Call.{modelOf, statesOf, refusal}
+use Rattle.op_judge.specs.Judge.{judged}
+use Rattle.op_check.specs.Check.{checkAnswer}
+use Rattle.op_margin.specs.Margin.{marginAnswer}
+use Rattle.call.proofs.Calls.{taken-in, accepted}
 use Rattle.demands.specs.Told.{verdictIn, kindAnswer, Perfect}
 use Rattle.demands.proofs.Demand2.{answered, one-bit, zero-bit, verdict-is}
 use Rattle.demands.proofs.Demand3.{sheet-exactly, trail-exactly}
@@ -82,7 +82,7 @@ module _ (bytes lent : List ℕ) (taken : refusal bytes lent ≡ 0) where
       trail-fragile m ok resets vs (passes-law (labelledOfModel m) vs .1 w)
 
   -- a number that serves every model
-  pub margin-most : margin (automatonOf m) (m .locations) ≤ 11667
+  pub margin-most : margin (automatonOf m) (m .locations) ≤ maxMargin
   margin-most = margin-uniform m ok
 
 -- ---- from the answers alone

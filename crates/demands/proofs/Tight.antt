@@ -20,19 +20,20 @@ use Rattle.model.specs.Parse.{fieldAt, kindAt, invariantAt, endsAt, guardAt, pa
 use Rattle.model.specs.Cycle.{markEdge, roundOf, survivors, hasCycle, unreset}
 use Rattle.model.specs.Accept.{readModel}
 use Rattle.graph.specs.Plan.{edgeOf, automatonOf}
-use Rattle.sheet.specs.Numbers.{numberKeeps, numbersFrom}
+use Rattle.evidence_number.specs.Evidence.{readEvidence}
+use Rattle.sheet_numbers.specs.Numbers.{numberKeeps, numbersFrom}
 use Rattle.sheet.specs.Answer.{sheetRefusal}
 use Rattle.evidence.specs.declared.Evidence.the-variants as evidence
 use Rattle.evidence.specs.Evidence.{ofKind, checked}
-use Rattle.drift.specs.Call.{modelOf}
+use Rattle.call.specs.Call.{modelOf}
 use Rattle.demands.specs.Tight.{stairs, stairsSheet}
 
 pub stairs-accepted : readModel stairs .refusal ≡ 0
-unfolding stairs stairsSheet checked ofKind sheetRefusal numbersFrom numberKeeps keeps readNumber readModel parseModel parseCounts parseBody each kindAt invariantAt endsAt guardAt fieldAt markEdge roundOf survivors hasCycle unreset automatonOf tab any all systemOf flowTest stepFrom timeFrom jumpFrom stateAt beside allowedState numberOf indexIn sameRegion regionOf locationOf regionCount regions allowed guardHolds lawful fits attains face shares corners hasCorner same
+unfolding stairs stairsSheet checked ofKind sheetRefusal numbersFrom numberKeeps keeps readEvidence readNumber readModel parseModel parseCounts parseBody each kindAt invariantAt endsAt guardAt fieldAt markEdge roundOf survivors hasCycle unreset automatonOf tab any all systemOf flowTest stepFrom timeFrom jumpFrom stateAt beside allowedState numberOf indexIn sameRegion regionOf locationOf regionCount regions allowed guardHolds lawful fits attains face shares corners hasCorner same
 stairs-accepted = refl
 
 pub stairs-pass : checked (modelOf stairs) stairsSheet ≡ evidence.Sheet
-unfolding stairs stairsSheet checked ofKind sheetRefusal numbersFrom numberKeeps keeps readNumber readModel parseModel parseCounts parseBody each kindAt invariantAt endsAt guardAt fieldAt markEdge roundOf survivors hasCycle unreset automatonOf tab any all systemOf flowTest stepFrom timeFrom jumpFrom stateAt beside allowedState numberOf indexIn sameRegion regionOf locationOf regionCount regions allowed guardHolds lawful fits attains face shares corners hasCorner same
+unfolding stairs stairsSheet checked ofKind sheetRefusal numbersFrom numberKeeps keeps readEvidence readNumber readModel parseModel parseCounts parseBody each kindAt invariantAt endsAt guardAt fieldAt markEdge roundOf survivors hasCycle unreset automatonOf tab any all systemOf flowTest stepFrom timeFrom jumpFrom stateAt beside allowedState numberOf indexIn sameRegion regionOf locationOf regionCount regions allowed guardHolds lawful fits attains face shares corners hasCorner same
 stairs-pass = refl
 
 -- ---- the run: N = D = 8, e = 1, and an eighth of a unit of waiting before each jump

@@ -8,8 +8,8 @@ use Rattle.theory.specs.Lists.{every, same}
 use Rattle.theory.specs.Region.{Region, clock, regions, lawful, corners, successor}
 use Rattle.theory.specs.StateGraph.{sameRegion}
 use Rattle.evidence.specs.Ours.{ourEvidence}
-use Rattle.drift.specs.Call.{modelOf}
-use Rattle.drift.specs.Check.{checkAnswer}
+use Rattle.call.specs.Call.{modelOf}
+use Rattle.op_check.specs.Check.{checkAnswer}
 
 pub data Case : Type 0 where
   -- so many clocks, a ceiling: so many regions

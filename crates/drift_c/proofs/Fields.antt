@@ -2,6 +2,7 @@
 use Prim.Native.Nat.{ℕ, zero, suc, _+_, _*_, _%_, _^_, _≤_, zero-le}
 use native.Mathlib.Nat.{le-of-lt}
 use native.Mathlib.Omega.{arith}
+use native.Mathlib.Nat.{le-trans}
 use mathlib.Core.Path.{_≡_, refl, sym, _∙_}
 use mathlib.Core.Bool.{Bool, true, false, cond}
 use mathlib.Core.List.{List, [], _∷_}
@@ -17,7 +18,7 @@ use Rattle.model.specs.Accept.{readModel}
 use Rattle.model.specs.declared.Model.{Model}
 use Rattle.model.specs.Model.{Lawful}
 use Rattle.model.proofs.Accepted.{accepted-lawful}
-use Rattle.drift.proofs.Calls.{accepted}
+use Rattle.call.proofs.Calls.{accepted}
 use Rattle.graph.specs.Plan.{automatonOf, systemOfModel}
 use Rattle.graph.specs.States.{states}
 use Rattle.graph.proofs.Models.{system-laws}
@@ -30,16 +31,16 @@ use Rattle.evidence.specs.Ours.{ourEvidence}
 use Rattle.evidence_writer.specs.declared.Written.{Written}
 use Rattle.evidence_writer.specs.Written.{verdictWith, writtenFor}
 use Rattle.evidence_writer.proofs.Output.{evidence-most}
-use Rattle.drift.specs.Write.{told, writeAnswer}
+use Rattle.op_write.specs.Write.{writtenAnswer, writeAnswer}
 use Rattle.robust.specs.Margin.{margin}
 use Rattle.robust_models.proofs.Models.{margin-uniform}
-use Rattle.drift.specs.Margin.{marginAnswer}
+use Rattle.op_margin.specs.Margin.{marginAnswer}
 use Rattle.number.specs.Answer.{Answer, answer}
-use Rattle.drift.specs.Call.{modelOf, statesOf, enough, refusal}
-use Rattle.drift.specs.Judge.{countOf, verdict, judged}
-use Rattle.drift.specs.Marks.{marksRefusal, marked}
+use Rattle.call.specs.Call.{modelOf, statesOf, enough, refusal}
+use Rattle.op_judge.specs.Judge.{countOf, verdict, judged}
+use Rattle.op_marks.specs.Marks.{marksRefusal, marked}
 use Rattle.survey.proofs.Tables.{size-states}
-use Rattle.evidence_writer.proofs.Verdict.{steps-verdict}
+use Rattle.theory.proofs.Trail.{steps-verdict}
 use Rattle.drift_c.specs.Words.{value, judgeWord, marksWord, checkWord, writeWord, numberWord, marginWord, SmallValue, Fields, Room}
 
 module _ (m : Model) (ok : Lawful m) where
@@ -124,11 +125,11 @@ write-refused-is r = omega arith
 
 -- the number of bytes fits
 pub write-room : (bytes lent : List ℕ) (room : ℕ) → Room (writeAnswer bytes lent room)
-unfolding writeAnswer answer told writtenFor verdictWith
+unfolding writeAnswer answer writtenAnswer writtenFor verdictWith
 write-room bytes lent room =
     record {
       few = cond-ind Few (eqb (refusal bytes lent) 0)
-          (λ t. few (unsafe (systemOfModel (modelOf bytes))) (evidence-most (modelOf bytes) (accepted bytes lent (eqb-true _ _ t))))
+          (λ t. few (unsafe (systemOfModel (modelOf bytes))) (le-trans (evidence-most (modelOf bytes) (accepted bytes lent (eqb-true _ _ t))) (omega arith)))
           (λ _. none (refusal bytes lent) (eqb (refusal bytes lent) 0));
     }
   where
@@ -139,10 +140,10 @@ write-room bytes lent room =
     none r true = zero-le
     none r false = zero-le
 
-    few : (bad : Bool) → length (ourEvidence (modelOf bytes)) ≤ 2 ^ 40 → Few (told (verdictWith bad (length (ourEvidence (modelOf bytes))) room))
+    few : (bad : Bool) → length (ourEvidence (modelOf bytes)) ≤ 2 ^ 40 → Few (writtenAnswer (verdictWith bad (length (ourEvidence (modelOf bytes))) room))
     few bad h =
-        cond-ind (λ (w : Written). Few (told w)) (ltb room (length (ourEvidence (modelOf bytes)))) (λ _. zero-le)
-        (λ _. cond-ind (λ (w : Written). Few (told w)) bad (λ _. h) (λ _. h))
+        cond-ind (λ (w : Written). Few (writtenAnswer w)) (ltb room (length (ourEvidence (modelOf bytes)))) (λ _. zero-le)
+        (λ _. cond-ind (λ (w : Written). Few (writtenAnswer w)) bad (λ _. h) (λ _. h))
 
 -- ---- numbers
 

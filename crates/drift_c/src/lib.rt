@@ -3,12 +3,12 @@
 ghost use mathlib.Core.Path.{_≡_};
 ghost use Prim.Native.Nat.{_+_, _*_, _≤_};
 ghost use lib.ListN.{length};
-ghost use Rattle.drift.specs.Call.{lengths, left};
-ghost use Rattle.drift.specs.Judge.{judged, told};
-ghost use Rattle.drift.specs.Marks.{marked, output, told as toldMarks};
-ghost use Rattle.drift.specs.Check.{checkAnswer, told as toldCheck};
-ghost use Rattle.drift.specs.Margin.{marginAnswer, told as toldMargin};
-ghost use Rattle.drift.specs.Write.{writeAnswer, writeOutput, told as toldWrite};
+ghost use Rattle.call.specs.Scratch.{lengths, ScratchLeft};
+ghost use Rattle.op_judge.specs.Judge.{judged, judgementAnswer};
+ghost use Rattle.op_marks.specs.Marks.{marked, output, markingAnswer};
+ghost use Rattle.op_check.specs.Check.{checkAnswer, evidenceAnswer};
+ghost use Rattle.op_margin.specs.Margin.{marginAnswer, toleranceAnswer};
+ghost use Rattle.op_write.specs.Write.{writeAnswer, writeOutput, writtenAnswer};
 ghost use Rattle.number.specs.Number.{readNumber};
 ghost use Rattle.drift_c.specs.Words.{judgeWord, marksWord, checkWord, writeWord, numberWord, marginWord, Fields, Room, SmallValue};
 use drift::Evidence;
@@ -16,6 +16,7 @@ use drift::Judgement;
 use drift::Marking;
 use drift::Tolerance;
 use drift::Written;
+use limits::Word;
 use number::Number;
 
 // The fields of a verdict.
@@ -27,8 +28,8 @@ fn verdict_word(verdict: u64, states: usize, count: usize) -> u64
 }
 
 fn judge_word(answer: Judgement) -> u64
-    requires { ⌜ Fields (told answer) ⌝ }
-    ensures { λ r. ⌜ r ≡ judgeWord (told answer) ⌝ }
+    requires { ⌜ Fields (judgementAnswer answer) ⌝ }
+    ensures { λ r. ⌜ r ≡ judgeWord (judgementAnswer answer) ⌝ }
 {
     match answer {
         Judgement::Safe(states, count) => verdict_word(0, states, count),
@@ -38,8 +39,8 @@ fn judge_word(answer: Judgement) -> u64
 }
 
 fn marks_word(answer: Marking) -> u64
-    requires { ⌜ Fields (toldMarks answer) ⌝ }
-    ensures { λ r. ⌜ r ≡ marksWord (toldMarks answer) ⌝ }
+    requires { ⌜ Fields (markingAnswer answer) ⌝ }
+    ensures { λ r. ⌜ r ≡ marksWord (markingAnswer answer) ⌝ }
 {
     match answer {
         Marking::Marked(states) => states as u64 * 65536,
@@ -48,7 +49,7 @@ fn marks_word(answer: Marking) -> u64
 }
 
 fn check_word(answer: Evidence) -> u64
-    ensures { λ r. ⌜ r ≡ checkWord (toldCheck answer) ⌝ }
+    ensures { λ r. ⌜ r ≡ checkWord (evidenceAnswer answer) ⌝ }
 {
     match answer {
         Evidence::Sheet => 256,
@@ -58,8 +59,8 @@ fn check_word(answer: Evidence) -> u64
 }
 
 fn write_word(answer: Written) -> u64
-    requires { ⌜ Room (toldWrite answer) ⌝ }
-    ensures { λ r. ⌜ r ≡ writeWord (toldWrite answer) ⌝ }
+    requires { ⌜ Room (writtenAnswer answer) ⌝ }
+    ensures { λ r. ⌜ r ≡ writeWord (writtenAnswer answer) ⌝ }
 {
     match answer {
         Written::Safe(bytes) => bytes as u64 * 65536,
@@ -69,8 +70,8 @@ fn write_word(answer: Written) -> u64
 }
 
 fn margin_word(answer: Tolerance) -> u64
-    requires { ⌜ Fields (toldMargin answer) ⌝ }
-    ensures { λ r. ⌜ r ≡ marginWord (toldMargin answer) ⌝ }
+    requires { ⌜ Fields (toleranceAnswer answer) ⌝ }
+    ensures { λ r. ⌜ r ≡ marginWord (toleranceAnswer answer) ⌝ }
 {
     match answer {
         Tolerance::Bound(states, margin) => {
@@ -94,19 +95,17 @@ fn number_word(answer: Number) -> u64
 #[no_mangle]
 pub extern "C" fn drift_judge(
     model: &[u8],
-    s1: &mut [u16],
-    s2: &mut [u16],
-    s3: &mut [u16],
-    s4: &mut [u16],
+    s1: &mut [Word],
+    s2: &mut [Word],
+    s3: &mut [Word],
+    s4: &mut [Word],
 ) -> u64
     ensures { λ r. ⌜
         r ≡ judgeWord (judged (now (model .entry)) (lengths (now (s1 .entry)) (now (s2 .entry)) (now (s3 .entry)) (now (s4 .entry))))
         ⌝ }
     ensures { λ _. ⌜
-        (now (s1 .exit) ≡ left (now (model .entry)) (lengths (now (s1 .entry)) (now (s2 .entry)) (now (s3 .entry)) (now (s4 .entry))) (now (s1 .entry)))
-        × (now (s2 .exit) ≡ left (now (model .entry)) (lengths (now (s1 .entry)) (now (s2 .entry)) (now (s3 .entry)) (now (s4 .entry))) (now (s2 .entry)))
-        × (now (s3 .exit) ≡ left (now (model .entry)) (lengths (now (s1 .entry)) (now (s2 .entry)) (now (s3 .entry)) (now (s4 .entry))) (now (s3 .entry)))
-        × (now (s4 .exit) ≡ left (now (model .entry)) (lengths (now (s1 .entry)) (now (s2 .entry)) (now (s3 .entry)) (now (s4 .entry))) (now (s4 .entry)))
+        ScratchLeft (now (model .entry)) (now (s1 .entry)) (now (s2 .entry)) (now (s3 .entry)) (now (s4 .entry))
+        (now (s1 .exit)) (now (s2 .exit)) (now (s3 .exit)) (now (s4 .exit))
         ⌝ }
 {
     let answer = drift::judge(model, s1, s2, s3, s4);
@@ -117,10 +116,10 @@ pub extern "C" fn drift_judge(
 #[no_mangle]
 pub extern "C" fn drift_marks(
     model: &[u8],
-    s1: &mut [u16],
-    s2: &mut [u16],
-    s3: &mut [u16],
-    s4: &mut [u16],
+    s1: &mut [Word],
+    s2: &mut [Word],
+    s3: &mut [Word],
+    s4: &mut [Word],
     out: &mut [u8],
 ) -> u64
     ensures { λ r. ⌜
@@ -132,10 +131,8 @@ pub extern "C" fn drift_marks(
         ≡ output (now (model .entry)) (lengths (now (s1 .entry)) (now (s2 .entry)) (now (s3 .entry)) (now (s4 .entry))) (now (out .entry))
         ⌝ }
     ensures { λ _. ⌜
-        (now (s1 .exit) ≡ left (now (model .entry)) (lengths (now (s1 .entry)) (now (s2 .entry)) (now (s3 .entry)) (now (s4 .entry))) (now (s1 .entry)))
-        × (now (s2 .exit) ≡ left (now (model .entry)) (lengths (now (s1 .entry)) (now (s2 .entry)) (now (s3 .entry)) (now (s4 .entry))) (now (s2 .entry)))
-        × (now (s3 .exit) ≡ left (now (model .entry)) (lengths (now (s1 .entry)) (now (s2 .entry)) (now (s3 .entry)) (now (s4 .entry))) (now (s3 .entry)))
-        × (now (s4 .exit) ≡ left (now (model .entry)) (lengths (now (s1 .entry)) (now (s2 .entry)) (now (s3 .entry)) (now (s4 .entry))) (now (s4 .entry)))
+        ScratchLeft (now (model .entry)) (now (s1 .entry)) (now (s2 .entry)) (now (s3 .entry)) (now (s4 .entry))
+        (now (s1 .exit)) (now (s2 .exit)) (now (s3 .exit)) (now (s4 .exit))
         ⌝ }
 {
     let answer = drift::marks(model, s1, s2, s3, s4, out);
@@ -147,20 +144,18 @@ pub extern "C" fn drift_marks(
 pub extern "C" fn drift_check_evidence(
     model: &[u8],
     evidence: &[u8],
-    s1: &mut [u16],
-    s2: &mut [u16],
-    s3: &mut [u16],
-    s4: &mut [u16],
+    s1: &mut [Word],
+    s2: &mut [Word],
+    s3: &mut [Word],
+    s4: &mut [Word],
 ) -> u64
     ensures { λ r. ⌜
         r ≡ checkWord (checkAnswer (now (model .entry)) (now (evidence .entry))
         (lengths (now (s1 .entry)) (now (s2 .entry)) (now (s3 .entry)) (now (s4 .entry))))
         ⌝ }
     ensures { λ _. ⌜
-        (now (s1 .exit) ≡ left (now (model .entry)) (lengths (now (s1 .entry)) (now (s2 .entry)) (now (s3 .entry)) (now (s4 .entry))) (now (s1 .entry)))
-        × (now (s2 .exit) ≡ left (now (model .entry)) (lengths (now (s1 .entry)) (now (s2 .entry)) (now (s3 .entry)) (now (s4 .entry))) (now (s2 .entry)))
-        × (now (s3 .exit) ≡ left (now (model .entry)) (lengths (now (s1 .entry)) (now (s2 .entry)) (now (s3 .entry)) (now (s4 .entry))) (now (s3 .entry)))
-        × (now (s4 .exit) ≡ left (now (model .entry)) (lengths (now (s1 .entry)) (now (s2 .entry)) (now (s3 .entry)) (now (s4 .entry))) (now (s4 .entry)))
+        ScratchLeft (now (model .entry)) (now (s1 .entry)) (now (s2 .entry)) (now (s3 .entry)) (now (s4 .entry))
+        (now (s1 .exit)) (now (s2 .exit)) (now (s3 .exit)) (now (s4 .exit))
         ⌝ }
 {
     let answer = drift::check_evidence(model, evidence, s1, s2, s3, s4);
@@ -171,10 +166,10 @@ pub extern "C" fn drift_check_evidence(
 #[no_mangle]
 pub extern "C" fn drift_write_evidence(
     model: &[u8],
-    s1: &mut [u16],
-    s2: &mut [u16],
-    s3: &mut [u16],
-    s4: &mut [u16],
+    s1: &mut [Word],
+    s2: &mut [Word],
+    s3: &mut [Word],
+    s4: &mut [Word],
     out: &mut [u8],
 ) -> u64
     ensures { λ r. ⌜
@@ -186,10 +181,8 @@ pub extern "C" fn drift_write_evidence(
         ≡ writeOutput (now (model .entry)) (lengths (now (s1 .entry)) (now (s2 .entry)) (now (s3 .entry)) (now (s4 .entry))) (now (out .entry))
         ⌝ }
     ensures { λ _. ⌜
-        (now (s1 .exit) ≡ left (now (model .entry)) (lengths (now (s1 .entry)) (now (s2 .entry)) (now (s3 .entry)) (now (s4 .entry))) (now (s1 .entry)))
-        × (now (s2 .exit) ≡ left (now (model .entry)) (lengths (now (s1 .entry)) (now (s2 .entry)) (now (s3 .entry)) (now (s4 .entry))) (now (s2 .entry)))
-        × (now (s3 .exit) ≡ left (now (model .entry)) (lengths (now (s1 .entry)) (now (s2 .entry)) (now (s3 .entry)) (now (s4 .entry))) (now (s3 .entry)))
-        × (now (s4 .exit) ≡ left (now (model .entry)) (lengths (now (s1 .entry)) (now (s2 .entry)) (now (s3 .entry)) (now (s4 .entry))) (now (s4 .entry)))
+        ScratchLeft (now (model .entry)) (now (s1 .entry)) (now (s2 .entry)) (now (s3 .entry)) (now (s4 .entry))
+        (now (s1 .exit)) (now (s2 .exit)) (now (s3 .exit)) (now (s4 .exit))
         ⌝ }
 {
     let answer = drift::write_evidence(model, s1, s2, s3, s4, out);

@@ -30,7 +30,7 @@ use Rattle.theory.proofs.StateGraph.{count-positive}
 use Rattle.theory.proofs.Labels.{closed-labels-length}
 use Rattle.theory.proofs.Replay.{our-moves-length, our-moves-pass}
 use Rattle.number.specs.Number.{spellAll}
-use Rattle.number.proofs.Sequence.{spelled}
+use Rattle.evidence_number.proofs.Reading.{shortest-spelled}
 use Rattle.model.specs.declared.Model.{Model}
 use Rattle.model.specs.Model.{Lawful}
 use Rattle.graph.specs.Plan.{edgeOf, automatonOf, systemOfModel, labelledOfModel}
@@ -142,7 +142,7 @@ module _ (m : Model) (ok : Lawful m) where
       let many = our-moves-length P (labelled-laws m ok) l t in
       let few = trail-steps-below Y (system-laws m ok) l t in (
         ourMoves P,
-        rw u (spelled (ourTrailNumbers m)
+        rw u (shortest-spelled (ourTrailNumbers m)
             (fit-more (omega arith) (fit-more (omega (arith, many, few, size-few)) (fit-moves (trailStates Y) (Y .start))))),
         our-moves-pass P (labelled-laws m ok) l t,
       )
@@ -151,7 +151,7 @@ module _ (m : Model) (ok : Lawful m) where
   unfolding ourEvidence ourSheetNumbers ourSheet
   our-sheet u = (
     ourSheet Y,
-    rw u (spelled (ourSheetNumbers m)
+    rw u (shortest-spelled (ourSheetNumbers m)
         (fit-more (omega arith) (fit-tab (Y .size) (number Y)
         (λ i h. omega (arith, number-le Y (system-laws m ok) i h, size-few))))),
     our-sheet-passes Y (system-laws m ok) (safe-is Y (system-laws m ok) u),

@@ -5,7 +5,8 @@ use Prim.Native.Nat.{ℕ}
 use borrow.Author.Tests.{ne-eqb}
 use Rattle.number.specs.declared.Number.{Number}
 use Rattle.number.specs.declared.Number.the-variants as number
-use Rattle.number.specs.Number.{readNumber, numberRefusal}
+use Rattle.number.specs.Number.{numberRefusal}
+use Rattle.evidence_number.specs.Evidence.{readEvidence}
 use Rattle.model.specs.declared.Model.{Model}
 use Rattle.sheet.specs.Answer.{sheetAnswer}
 use Rattle.replay.specs.Trail.{trailAnswer}
@@ -34,7 +35,7 @@ module _ (m : Model) (bs : List ℕ) (kind at : ℕ) where
   unfolding ofKind
   of-neither a b = simp (ne-eqb kind 1 a, ne-eqb kind 2 b) refl
 
-module _ (m : Model) (bs : List ℕ) {got : Number} (is : got ≡ readNumber bs 0) where
+module _ (m : Model) (bs : List ℕ) {got : Number} (is : got ≡ readEvidence bs 0) where
   pub read-refused : {r n : ℕ} → got ≡ number.Refused r → n ≡ numberRefusal got → evidence.Refused n ≡ checked m bs
   unfolding checked
   read-refused told e = simp (sym is ∙ told) (ap evidence.Refused (e ∙ ap numberRefusal told))

@@ -5,8 +5,8 @@ use Prim.Native.Nat.{ℕ}
 use lib.Dec.{eqb}
 use Rattle.theory.specs.Sheet.{Sheet}
 use Rattle.theory.specs.Replay.{Move, Passes}
-use Rattle.number.specs.Number.{readNumber, onNumber}
-use Rattle.number.specs.Sequence.{SpellsAll}
+use Rattle.number.specs.Number.{onNumber}
+use Rattle.evidence_number.specs.Evidence.{SpellsEvidence, readEvidence}
 use Rattle.model.specs.declared.Model.{Model}
 use Rattle.graph.specs.Plan.{automatonOf, systemOfModel, labelledOfModel}
 use Rattle.sheet.specs.Answer.{sheetAnswer}
@@ -19,11 +19,11 @@ use Rattle.evidence.specs.declared.Evidence.the-variants as evidence
 
 -- 01: "A sheet is 1, then S numbers in state order"; "Evidence passes when its bytes spell, with nothing after, a sheet that keeps the rules"
 abbrev pub SheetPasses : Model → List ℕ → Type 0
-SheetPasses m bs = (l : List ℕ) × SpellsAll bs (1 ∷ l) × Sheet (systemOfModel m) l
+SheetPasses m bs = (l : List ℕ) × SpellsEvidence bs (1 ∷ l) × Sheet (systemOfModel m) l
 
 -- "A trail is 2, a step count, then steps"; "or a trail whose steps all replay and which ends in a forbidden location"
 abbrev pub TrailPasses : Model → List ℕ → Type 0
-TrailPasses m bs = (vs : List Move) × SpellsAll bs (2 ∷ trailNumbers (automatonOf m) vs) × Passes (labelledOfModel m) vs
+TrailPasses m bs = (vs : List Move) × SpellsEvidence bs (2 ∷ trailNumbers (automatonOf m) vs) × Passes (labelledOfModel m) vs
 
 -- ---- what computes it
 
@@ -39,4 +39,4 @@ ofKind m bs kind at =
     (evidence.Refused 10))
 
 unfoldable pub checked : Model → List ℕ → Evidence
-checked m bs = onNumber (readNumber bs 0) (ofKind m bs) evidence.Refused
+checked m bs = onNumber (readEvidence bs 0) (ofKind m bs) evidence.Refused

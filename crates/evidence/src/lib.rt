@@ -1,23 +1,26 @@
 // Evidence from anywhere, checked for a model: a sheet or a trail, by its first number.
 
 ghost use mathlib.Core.Path.{_≡_};
-ghost use Prim.Native.Nat.{_+_, _*_, _≤_};
+ghost use Prim.Native.Nat.{_≤_};
 ghost use lib.ListN.{length};
+ghost use Rattle.limits.specs.Limits.{smallRegions};
 ghost use Rattle.model.specs.Model.{Lawful};
 ghost use Rattle.graph.specs.States.{Listed, states};
-ghost use Rattle.successors.specs.Flow.{regionsIn};
-ghost use Rattle.region_corners.specs.Limits.{slotCount, pointCount, mostFaces};
+ghost use Rattle.tables.specs.Tables.{Room};
 ghost use Rattle.sheet.specs.Answer.{sheetAnswer};
 ghost use Rattle.evidence.specs.Evidence.{found, ofKind, checked};
+use limits::MAX_REGIONS;
+use limits::MAX_STATES;
+use limits::MAX_STEPS;
+use limits::SMALL_REGIONS;
+use limits::SMALL_STATES;
+use limits::SMALL_STEPS;
+use limits::Word;
+use limits::refusal::NO_EVIDENCE;
 use model::Model;
 use number::Number;
-use region::table::LENGTH;
-use region_corners::POINTS;
-use region_corners::SLOTS;
-use survey::MAX_FACES;
-use survey::MAX_SLOTS;
-use survey::MAX_STATES;
-use survey::MAX_STEPS;
+use shapes::MAX_SHAPES;
+use shapes::SMALL_SHAPES;
 
 // What passed, or the refusal.
 pub enum Evidence {
@@ -26,7 +29,7 @@ pub enum Evidence {
     Refused(u8),
 }
 
-// The rules need the tables of the model.
+// The rules need the tables of the model, but no chains through the corners.
 fn fill_and_check(
     m: Model,
     table: &[u32],
@@ -34,65 +37,30 @@ fn fill_and_check(
     at: usize,
     allowed: &mut [u8],
     first: &mut [u32],
-    targets: &mut [u16],
-    rows: &mut [u16],
-    faces: &mut [u16],
-    corner: &mut [u16],
-    head: &mut [u16],
-    link: &mut [u16],
-    sheet: &mut [u16],
+    targets: &mut [Word],
+    shapes: &mut [Word],
+    sheet: &mut [Word],
 ) -> u8
     requires { ⌜ Lawful m × Listed m (now table) × (length (now sheet) ≡ states m) ⌝ }
-    requires { ⌜ (length (now allowed) ≡ states m)
-        × (length (now first) ≡ states m + 1) × (states m + m .edges * regionsIn m ≤ length (now targets))
-        × (length (now rows) ≡ regionsIn m + 1) × (mostFaces * regionsIn m ≤ length (now faces)) × (length (now corner) ≡ slotCount * regionsIn m)
-        × (length (now head) ≡ pointCount) × (length (now link) ≡ slotCount * regionsIn m) ⌝ }
+    requires { ⌜ Room m (now allowed) (now first) (now targets) (now shapes) ⌝ }
     ensures { λ r. ⌜ r ≡ sheetAnswer m (now (bytes .entry)) at ⌝ }
 {
-    survey::fill_tables(
-        m,
-        table,
-        allowed,
-        first,
-        targets,
-        rows,
-        faces,
-        corner,
-        head,
-        link,
-    );
-    sheet::check_sheet(
-        m,
-        bytes,
-        at,
-        allowed,
-        first,
-        targets,
-        rows,
-        faces,
-        corner,
-        sheet,
-    )
+    tables::fill_tables(m, table, allowed, first, targets, shapes);
+    sheet::check_sheet(m, bytes, at, allowed, first, targets, shapes, sheet)
 }
 
-// The same with tables of its own.
-fn check_sheet(m: Model, table: &[u32], bytes: &[u8], at: usize, sheet: &mut [u16]) -> u8
+// With tables of its own, for any plan.
+fn check_large(m: Model, table: &[u32], bytes: &[u8], at: usize, sheet: &mut [Word]) -> u8
     requires { ⌜ Lawful m × Listed m (now table) × (length (now sheet) ≡ states m) ⌝ }
     ensures { λ r. ⌜ r ≡ sheetAnswer m (now (bytes .entry)) at ⌝ }
 {
     let mut allowed = [0u8; MAX_STATES];
     let mut first = [0u32; MAX_STATES + 1];
-    let mut targets = [0u16; MAX_STEPS];
-    let mut rows = [0u16; LENGTH + 1];
-    let mut faces = [0u16; MAX_FACES];
-    let mut corner = [0u16; MAX_SLOTS];
-    let mut head = [0u16; POINTS];
-    let mut link = [0u16; MAX_SLOTS];
-    let r = table.len();
+    let mut targets = [0 as Word; MAX_STEPS];
+    let mut shapes = [0 as Word; MAX_SHAPES];
     let s = sheet.len();
     let firsts = s + 1;
-    let starts = r + 1;
-    let slots = SLOTS * r;
+    let end = shapes::shapes_end(table.len());
     fill_and_check(
         m,
         table,
@@ -101,13 +69,45 @@ fn check_sheet(m: Model, table: &[u32], bytes: &[u8], at: usize, sheet: &mut [u1
         &mut allowed[..s],
         &mut first[..firsts],
         &mut targets,
-        &mut rows[..starts],
-        &mut faces,
-        &mut corner[..slots],
-        &mut head,
-        &mut link[..slots],
+        &mut shapes[..end],
         sheet,
     )
+}
+
+// The same for a small plan: the smaller tables are sooner made.
+fn check_small(m: Model, table: &[u32], bytes: &[u8], at: usize, sheet: &mut [Word]) -> u8
+    requires { ⌜ Lawful m × Listed m (now table) × (length (now sheet) ≡ states m) ⌝ }
+    requires { ⌜ length (now table) ≤ smallRegions ⌝ }
+    ensures { λ r. ⌜ r ≡ sheetAnswer m (now (bytes .entry)) at ⌝ }
+{
+    let mut allowed = [0u8; SMALL_STATES];
+    let mut first = [0u32; SMALL_STATES + 1];
+    let mut targets = [0 as Word; SMALL_STEPS];
+    let mut shapes = [0 as Word; SMALL_SHAPES];
+    let s = sheet.len();
+    let firsts = s + 1;
+    let end = shapes::shapes_end(table.len());
+    fill_and_check(
+        m,
+        table,
+        bytes,
+        at,
+        &mut allowed[..s],
+        &mut first[..firsts],
+        &mut targets,
+        &mut shapes[..end],
+        sheet,
+    )
+}
+
+fn check_sheet(m: Model, table: &[u32], bytes: &[u8], at: usize, sheet: &mut [Word]) -> u8
+    requires { ⌜ Lawful m × Listed m (now table) × (length (now sheet) ≡ states m) ⌝ }
+    ensures { λ r. ⌜ r ≡ sheetAnswer m (now (bytes .entry)) at ⌝ }
+{
+    if table.len() <= SMALL_REGIONS {
+        return check_small(m, table, bytes, at, sheet);
+    }
+    check_large(m, table, bytes, at, sheet)
 }
 
 // What passed where nothing was refused.
@@ -127,7 +127,7 @@ fn check_kind(
     bytes: &[u8],
     kind: u32,
     at: usize,
-    sheet: &mut [u16],
+    sheet: &mut [Word],
 ) -> Evidence
     requires { ⌜ Lawful m × Listed m (now table) × (length (now sheet) ≡ states m) ⌝ }
     ensures { λ r. ⌜ r ≡ ofKind m (now (bytes .entry)) kind at ⌝ }
@@ -138,19 +138,19 @@ fn check_kind(
     if kind == 2 {
         return finding(Evidence::Trail, replay::replay(m, table, bytes, at));
     }
-    Evidence::Refused(10)
+    Evidence::Refused(NO_EVIDENCE)
 }
 
 // Whether the bytes are evidence that passes, and of which kind, or the refusal: 1, 2, 6 or 10 to 14. Into `sheet` go the numbers of a sheet.
-pub fn check(m: Model, bytes: &[u8], sheet: &mut [u16]) -> Evidence
+pub fn check(m: Model, bytes: &[u8], sheet: &mut [Word]) -> Evidence
     requires { ⌜ Lawful m × (length (now sheet) ≡ states m) ⌝ }
     ensures { λ r. ⌜ r ≡ checked m (now (bytes .entry)) ⌝ }
 {
-    let got = number::read(bytes, 0);
+    let got = evidence_number::read(bytes, 0);
     let Number::Value(kind, at) = got else {
         return Evidence::Refused(number::refusal_of(got));
     };
-    let mut table = [0u32; LENGTH];
-    let r = region::select(m.clocks, m.ceiling, &mut table);
+    let mut table = [0u32; MAX_REGIONS];
+    let r = region_table::select(m.clocks, m.ceiling, &mut table);
     check_kind(m, &table[..r], bytes, kind, at, sheet)
 }

@@ -10,6 +10,7 @@ use lib.ListN.{length, length-append, getD, take, drop, drop-of-length-le}
 use lib.Seq.{drop-cons}
 use lib.Dec.{eqb, ltb}
 use borrow.Author.Tests.{lt-ltb, le-ltb, ltb-true}
+use Rattle.limits.specs.Limits.{maxStates}
 use Rattle.theory.specs.Below.{least}
 use Rattle.theory.specs.Lists.{from}
 use Rattle.theory.specs.Adjacency.{Holds}
@@ -40,11 +41,11 @@ use Rattle.graph.proofs.Models.{system-laws, labelled-laws}
 use Rattle.successors.proofs.Leaving.{from-length}
 use Rattle.successors.proofs.Room.{states-limit}
 use Rattle.survey.proofs.Start.{start-at}
-use Rattle.spelling.specs.Lays.{Lays, mostBytes}
+use Rattle.spelling.specs.Lays.{Lays, mostMoveNumbers, mostBytes}
 use Rattle.spelling.proofs.Lays.{lays-none, lays-then, lays-as, spell-append, spell-all-few}
 use Rattle.replay.specs.Spelling.{labelNumbers, walkNumbers, moveNumbers, movesNumbers, trailNumbers}
 use Rattle.evidence.specs.Ours.{ourTrailNumbers, ourEvidence}
-use Rattle.closed_walk.specs.Graph.{Closes}
+use Rattle.closed_walk.specs.Closes.{Closes}
 use Rattle.closed_walk.proofs.Closing.{closed-walk-steps, closed-walk-nodes}
 use Rattle.evidence_writer.specs.Lent.{Ready, Leads}
 
@@ -75,7 +76,7 @@ module _ (m : Model) (ok : Lawful m) where
   abbrev P : LabelledSystem
   P = labelledOfModel m
 
-  pub size-few : states m ≤ 15816
+  pub size-few : states m ≤ maxStates
   size-few = states-limit ok
 
   size-is : Y .size ≡ states m
@@ -260,7 +261,7 @@ module _ (m : Model) (ok : Lawful m) where
 
   -- ---- the trail
 
-  trail-start : Y .start < 15816
+  trail-start : Y .start < maxStates
   trail-start = omega (arith, system-laws m ok .allowed-below (Y .start) (system-laws m ok .start-allowed), size-is, size-few)
 
   along-length : (l : List ℕ) (p : ℕ) → length (movesAlong P p l) ≡ length l
@@ -314,19 +315,19 @@ module _ (m : Model) (ok : Lawful m) where
   unfolding closedWalkSteps dist⁺ labelledOf
   steps-few q = omega (arith, least-le (Y .size) (λ k. exact (Y .size) (Y .flow) (λ x. eqb x q) (suc k) q), size-is)
 
-  move-few : (p q : ℕ) → length (moveNumbers (automatonOf m) (ourMove P p q)) ≤ 40000
+  move-few : (p q : ℕ) → length (moveNumbers (automatonOf m) (ourMove P p q)) ≤ mostMoveNumbers
   unfolding ourMove moveNumbers
   move-few p q =
-      cond-ind (λ (v : Move). length (moveNumbers (automatonOf m) v) ≤ 40000) (ltb (leastLabel P p q) (P .labels))
+      cond-ind (λ (v : Move). length (moveNumbers (automatonOf m) v) ≤ mostMoveNumbers) (ltb (leastLabel P p q) (P .labels))
       (λ _. omega (arith, label-few (leastLabel P p q)))
-      (λ _. cond-ind (λ (v : Move). length (moveNumbers (automatonOf m) v) ≤ 40000) (P .system .face p q)
+      (λ _. cond-ind (λ (v : Move). length (moveNumbers (automatonOf m) v) ≤ mostMoveNumbers) (P .system .face p q)
       (λ _. omega (arith, key-few q)) (λ _. touch))
     where
       label-few : (x : ℕ) → length (labelNumbers x) ≤ 2
       label-few zero = omega arith
       label-few (suc e) = omega arith
 
-      touch : length (3 ∷ (key (regionOf (automatonOf m) q) ++ (length (closedWalkLabels P q) ∷ walkNumbers (closedWalkLabels P q)))) ≤ 40000
+      touch : length (3 ∷ (key (regionOf (automatonOf m) q) ++ (length (closedWalkLabels P q) ∷ walkNumbers (closedWalkLabels P q)))) ≤ mostMoveNumbers
       touch =
           omega (
             arith,
@@ -342,7 +343,7 @@ module _ (m : Model) (ok : Lawful m) where
   unfolding ourTrailNumbers trailNumbers ourMoves labelledOf
   numbers-are = omega arith
 
-  moves-few : (l : List ℕ) (p : ℕ) → length (movesNumbers (automatonOf m) (movesAlong P p l)) ≤ 40000 * length l
+  moves-few : (l : List ℕ) (p : ℕ) → length (movesNumbers (automatonOf m) (movesAlong P p l)) ≤ mostMoveNumbers * length l
   unfolding movesAlong movesNumbers
   moves-few [] p = omega arith
   moves-few (q ∷ l) p =
@@ -368,9 +369,9 @@ module _ (m : Model) (ok : Lawful m) where
   module _ (n : ℕ) (e : n ≡ length (regions (m .clocks) (m .ceiling))) where
     pub start-is : m .start * n ≡ Y .start
     unfolding automatonOf regionCount
-    start-is = ap (λ (k : ℕ). m .start * k) e ∙ sym (start-at m ok)
+    start-is = ap (λ (k : ℕ). m .start * k) e ∙ sym (start-at m)
 
-    pub start-fits : m .start * n < 15816
+    pub start-fits : m .start * n < maxStates
     start-fits = omega (arith, start-is, trail-start)
 
   pub trail-as : (start : ℕ) (path : List ℕ) → start ≡ Y .start → path ≡ trailStates Y

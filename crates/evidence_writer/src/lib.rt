@@ -2,30 +2,38 @@
 
 ghost use mathlib.Core.Path.{_≡_};
 ghost use mathlib.Core.Bool.{Bool, true, false};
-ghost use Prim.Native.Nat.{_+_, _*_, _<_, _≤_};
+ghost use Prim.Native.Nat.{_≤_};
 ghost use lib.ListN.{length};
+ghost use Rattle.limits.specs.Limits.{smallRegions};
 ghost use Rattle.theory.specs.Marked.{unsafe};
 ghost use Rattle.theory.specs.Trail.{trailStates};
 ghost use Rattle.model.specs.Model.{Lawful};
 ghost use Rattle.graph.specs.Plan.{systemOfModel};
 ghost use Rattle.graph.specs.States.{Listed, states};
-ghost use Rattle.successors.specs.Flow.{regionsIn, FlowLists};
-ghost use Rattle.region_corners.specs.Limits.{slotCount, pointCount, mostFaces};
-ghost use Rattle.survey.specs.Surveyed.{Corners, Surveyed};
+ghost use Rattle.successors.specs.Flow.{FlowLists};
+ghost use Rattle.region_corners.specs.Shapes.{Linked};
+ghost use Rattle.tables.specs.Tables.{Room};
+ghost use Rattle.call.specs.Scratch.{Scratch};
+ghost use Rattle.survey.specs.Surveyed.{Surveyed, Levelled};
 ghost use Rattle.evidence.specs.Ours.{ourEvidence};
 ghost use Rattle.evidence_writer.specs.Lent.{Ready};
 ghost use Rattle.evidence_writer.specs.Written.{evidenceIn, verdictWith, writtenFor};
 
 mod trail;
 
+use limits::MAX_REGIONS;
+use limits::MAX_STATES;
+use limits::MAX_STEPS;
+use limits::SMALL_REGIONS;
+use limits::SMALL_STATES;
+use limits::SMALL_STEPS;
+use limits::Word;
+use limits::cast::from_byte;
+use limits::cast::from_short;
+use limits::refusal::OUTPUT_SHORT;
 use model::Model;
-use region::table::LENGTH;
-use region_corners::POINTS;
-use region_corners::SLOTS;
-use survey::MAX_FACES;
-use survey::MAX_SLOTS;
-use survey::MAX_STATES;
-use survey::MAX_STEPS;
+use shapes::MAX_SHAPES;
+use shapes::SMALL_SHAPES;
 use trail::put_trail;
 
 // The verdict with the number of bytes written, or the refusal, 9.
@@ -40,11 +48,11 @@ fn write_trail(
     m: Model,
     table: &[u32],
     first: &[u32],
-    targets: &[u16],
-    path: &[u16],
-    far: &mut [u16],
-    queue: &mut [u16],
-    walk: &mut [u16],
+    targets: &[Word],
+    path: &[Word],
+    far: &mut [Word],
+    queue: &mut [Word],
+    walk: &mut [Word],
     out: &mut [u8],
 ) -> usize
     requires { ⌜
@@ -71,13 +79,13 @@ fn write_trail(
 }
 
 // The same for our sheet.
-fn write_sheet(m: Model, info: &[u16], far: &[u16], out: &mut [u8]) -> usize
-    requires { ⌜ Lawful m × Surveyed m (now info) (now far) × (unsafe (systemOfModel m) ≡ false) ⌝ }
+fn write_sheet(m: Model, heights: &[Word], distance: &[Word], out: &mut [u8]) -> usize
+    requires { ⌜ Lawful m × Surveyed m (now heights) (now distance) × (unsafe (systemOfModel m) ≡ false) ⌝ }
     ensures { λ r. ⌜ (r ≡ length (ourEvidence m)) × (now (out .exit) ≡ evidenceIn m (now (out .entry))) ⌝ }
 {
-    let need = sheet_writer::put_sheet(m, info, far, &mut out[..0]);
+    let need = sheet_writer::put_sheet(m, heights, distance, &mut out[..0]);
     if need <= out.len() {
-        sheet_writer::put_sheet(m, info, far, out);
+        sheet_writer::put_sheet(m, heights, distance, out);
     }
     need
 }
@@ -87,7 +95,7 @@ fn verdict_with(bad: bool, need: usize, room: usize) -> Written
     ensures { λ r. ⌜ r ≡ verdictWith bad need room ⌝ }
 {
     if room < need {
-        return Written::Refused(9);
+        return Written::Refused(OUTPUT_SHORT);
     }
     if bad {
         return Written::Unsafe(need);
@@ -100,46 +108,35 @@ fn write_found(
     m: Model,
     table: &[u32],
     first: &[u32],
-    targets: &[u16],
-    rows: &[u16],
-    faces: &[u16],
-    corner: &[u16],
-    head: &[u16],
-    link: &[u16],
-    level: &mut [u16],
-    info: &mut [u16],
-    far: &mut [u16],
-    peer: &mut [u16],
-    path: &mut [u16],
+    targets: &[Word],
+    shapes: &[Word],
+    heights: &mut [Word],
+    distance: &mut [Word],
+    queue: &mut [Word],
+    path: &mut [Word],
     out: &mut [u8],
 ) -> Written
-    requires { ⌜ Lawful m × Listed m (now table) × FlowLists m (now first) (now targets)
-        × Corners m (now rows) (now faces) (now corner) (now head) (now link) × Surveyed m (now info) (now far)
-        × (length (now level) ≡ states m + 1) × (length (now peer) ≡ states m) × (length (now path) ≡ states m) ⌝ }
+    requires { ⌜ Lawful m × Listed m (now table) × FlowLists m (now first) (now targets) × Linked (m .clocks) (m .ceiling) (now shapes)
+        × Levelled m (now heights) (now distance) (now queue) × (length (now queue) ≡ states m) × (length (now path) ≡ states m) ⌝ }
     ensures { λ r. ⌜ (r ≡ writtenFor m (length (now (out .entry)))) × (now (out .exit) ≡ evidenceIn m (now (out .entry))) ⌝ }
 {
     let kind = m.kind;
-    let r = region::count(m.clocks, m.ceiling) as usize;
+    let r = from_short(region_table::count(m.clocks, m.ceiling));
     let room = out.len();
-    let steps = marking::fewest(far, &kind, r);
-    if steps < far.len() {
-        let start = m.start as usize * r;
+    let steps = marking::fewest(distance, &kind, r);
+    if steps < distance.len() {
+        let start = from_byte(m.start) * r;
         trail_states::trail_states(
             steps,
             start,
             r,
             first,
             targets,
-            rows,
-            faces,
-            corner,
-            head,
-            link,
-            info,
+            shapes,
+            heights,
             &kind,
-            far,
-            level,
-            peer,
+            distance,
+            queue,
             path,
         );
         let need = write_trail(
@@ -148,134 +145,108 @@ fn write_found(
             first,
             targets,
             &path[..steps],
-            info,
-            far,
-            peer,
+            heights,
+            distance,
+            queue,
             out,
         );
         return verdict_with(true, need, room);
     }
-    let need = write_sheet(m, info, far, out);
+    let need = write_sheet(m, heights, distance, out);
     verdict_with(false, need, room)
 }
 
-// With tables lent.
-fn write_tables(
+// With tables lent to be filled.
+fn fill_and_write(
     m: Model,
     table: &[u32],
     allowed: &mut [u8],
     first: &mut [u32],
-    targets: &mut [u16],
-    rows: &mut [u16],
-    faces: &mut [u16],
-    corner: &mut [u16],
-    head: &mut [u16],
-    link: &mut [u16],
-    level: &mut [u16],
-    info: &mut [u16],
-    far: &mut [u16],
-    peer: &mut [u16],
-    path: &mut [u16],
+    targets: &mut [Word],
+    shapes: &mut [Word],
+    s1: &mut [Word],
+    s2: &mut [Word],
+    s3: &mut [Word],
+    s4: &mut [Word],
     out: &mut [u8],
 ) -> Written
-    requires { ⌜ Lawful m × Listed m (now table) ⌝ }
-    requires { ⌜ (length (now allowed) ≡ states m)
-        × (length (now first) ≡ states m + 1) × (states m + m .edges * regionsIn m ≤ length (now targets))
-        × (length (now rows) ≡ regionsIn m + 1) × (mostFaces * regionsIn m ≤ length (now faces)) × (length (now corner) ≡ slotCount * regionsIn m)
-        × (length (now head) ≡ pointCount) × (length (now link) ≡ slotCount * regionsIn m) ⌝ }
-    requires { ⌜ (length (now level) ≡ states m + 1) × (length (now info) ≡ states m) × (length (now far) ≡ states m)
-        × (length (now peer) ≡ states m) × (length (now path) ≡ states m) ⌝ }
+    requires { ⌜ Lawful m × Listed m (now table) × Room m (now allowed) (now first) (now targets) (now shapes) ⌝ }
+    requires { ⌜ Scratch (states m) (now s1) (now s2) (now s3) (now s4) ⌝ }
     ensures { λ r. ⌜ (r ≡ writtenFor m (length (now (out .entry)))) × (now (out .exit) ≡ evidenceIn m (now (out .entry))) ⌝ }
 {
-    survey::fill_tables(
-        m,
-        table,
-        allowed,
-        first,
-        targets,
-        rows,
-        faces,
-        corner,
-        head,
-        link,
-    );
-    survey::search(
-        m,
-        first,
-        targets,
-        rows,
-        faces,
-        corner,
-        head,
-        link,
-        info,
-        far,
-        peer,
-        path,
-    );
-    write_found(
-        m,
-        table,
-        first,
-        targets,
-        rows,
-        faces,
-        corner,
-        head,
-        link,
-        level,
-        info,
-        far,
-        peer,
-        path,
-        out,
-    )
+    tables::fill_tables(m, table, allowed, first, targets, shapes);
+    region_corners::link_corners(table.len(), shapes);
+    survey::search(m, first, targets, shapes, s1, s2, s3, s4);
+    write_found(m, table, first, targets, shapes, s1, s2, s3, s4, out)
 }
 
-// With tables of its own.
-fn write_regions(
+// With tables of its own, for any plan.
+fn write_large(
     m: Model,
     table: &[u32],
-    a: &mut [u16],
-    b: &mut [u16],
-    c: &mut [u16],
-    d: &mut [u16],
+    s1: &mut [Word],
+    s2: &mut [Word],
+    s3: &mut [Word],
+    s4: &mut [Word],
     out: &mut [u8],
 ) -> Written
-    requires { ⌜ Lawful m × Listed m (now table) ⌝ }
-    requires { ⌜ (length (now a) ≡ states m) × (length (now b) ≡ states m) × (length (now c) ≡ states m) × (length (now d) ≡ states m) ⌝ }
+    requires { ⌜ Lawful m × Listed m (now table) × Scratch (states m) (now s1) (now s2) (now s3) (now s4) ⌝ }
     ensures { λ r. ⌜ (r ≡ writtenFor m (length (now (out .entry)))) × (now (out .exit) ≡ evidenceIn m (now (out .entry))) ⌝ }
 {
     let mut allowed = [0u8; MAX_STATES];
     let mut first = [0u32; MAX_STATES + 1];
-    let mut targets = [0u16; MAX_STEPS];
-    let mut rows = [0u16; LENGTH + 1];
-    let mut faces = [0u16; MAX_FACES];
-    let mut corner = [0u16; MAX_SLOTS];
-    let mut head = [0u16; POINTS];
-    let mut link = [0u16; MAX_SLOTS];
-    let mut level = [0u16; MAX_STATES + 1];
-    let r = table.len();
-    let s = a.len();
+    let mut targets = [0 as Word; MAX_STEPS];
+    let mut shapes = [0 as Word; MAX_SHAPES];
+    let s = s1.len();
     let firsts = s + 1;
-    let starts = r + 1;
-    let slots = SLOTS * r;
-    write_tables(
+    let end = shapes::shapes_end(table.len());
+    fill_and_write(
         m,
         table,
         &mut allowed[..s],
         &mut first[..firsts],
         &mut targets,
-        &mut rows[..starts],
-        &mut faces,
-        &mut corner[..slots],
-        &mut head,
-        &mut link[..slots],
-        &mut level[..firsts],
-        a,
-        b,
-        c,
-        d,
+        &mut shapes[..end],
+        s1,
+        s2,
+        s3,
+        s4,
+        out,
+    )
+}
+
+// The same for a small plan: the smaller tables are sooner made.
+fn write_small(
+    m: Model,
+    table: &[u32],
+    s1: &mut [Word],
+    s2: &mut [Word],
+    s3: &mut [Word],
+    s4: &mut [Word],
+    out: &mut [u8],
+) -> Written
+    requires { ⌜ Lawful m × Listed m (now table) × Scratch (states m) (now s1) (now s2) (now s3) (now s4) ⌝ }
+    requires { ⌜ length (now table) ≤ smallRegions ⌝ }
+    ensures { λ r. ⌜ (r ≡ writtenFor m (length (now (out .entry)))) × (now (out .exit) ≡ evidenceIn m (now (out .entry))) ⌝ }
+{
+    let mut allowed = [0u8; SMALL_STATES];
+    let mut first = [0u32; SMALL_STATES + 1];
+    let mut targets = [0 as Word; SMALL_STEPS];
+    let mut shapes = [0 as Word; SMALL_SHAPES];
+    let s = s1.len();
+    let firsts = s + 1;
+    let end = shapes::shapes_end(table.len());
+    fill_and_write(
+        m,
+        table,
+        &mut allowed[..s],
+        &mut first[..firsts],
+        &mut targets,
+        &mut shapes[..end],
+        s1,
+        s2,
+        s3,
+        s4,
         out,
     )
 }
@@ -284,17 +255,19 @@ fn write_regions(
 // before does not matter; they are left with numbers of the search.
 pub fn write(
     m: Model,
-    a: &mut [u16],
-    b: &mut [u16],
-    c: &mut [u16],
-    d: &mut [u16],
+    s1: &mut [Word],
+    s2: &mut [Word],
+    s3: &mut [Word],
+    s4: &mut [Word],
     out: &mut [u8],
 ) -> Written
-    requires { ⌜ Lawful m ⌝ }
-    requires { ⌜ (length (now a) ≡ states m) × (length (now b) ≡ states m) × (length (now c) ≡ states m) × (length (now d) ≡ states m) ⌝ }
+    requires { ⌜ Lawful m × Scratch (states m) (now s1) (now s2) (now s3) (now s4) ⌝ }
     ensures { λ r. ⌜ (r ≡ writtenFor m (length (now (out .entry)))) × (now (out .exit) ≡ evidenceIn m (now (out .entry))) ⌝ }
 {
-    let mut table = [0u32; LENGTH];
-    let r = region::select(m.clocks, m.ceiling, &mut table);
-    write_regions(m, &table[..r], a, b, c, d, out)
+    let mut table = [0u32; MAX_REGIONS];
+    let r = region_table::select(m.clocks, m.ceiling, &mut table);
+    if r <= SMALL_REGIONS {
+        return write_small(m, &table[..r], s1, s2, s3, s4, out);
+    }
+    write_large(m, &table[..r], s1, s2, s3, s4, out)
 }

@@ -18,24 +18,20 @@ ghost use Rattle.spelling.specs.Lays.{Lays, mostBytes};
 ghost use Rattle.replay.specs.Spelling.{moveNumbers, movesNumbers};
 ghost use Rattle.evidence.specs.Ours.{ourTrailNumbers};
 ghost use Rattle.evidence_writer.specs.Lent.{Ready, Leads};
+use limits::Word;
+use limits::cast::from_word;
 use model::Model;
-
-fn wide(x: u16) -> usize
-    ensures { λ r. ⌜ r ≡ x ⌝ }
-{
-    x as usize
-}
 
 // A touch of q, with its closed walk.
 fn put_touch(
     m: Model,
     table: &[u32],
     first: &[u32],
-    targets: &[u16],
+    targets: &[Word],
     q: usize,
-    far: &mut [u16],
-    queue: &mut [u16],
-    walk: &mut [u16],
+    far: &mut [Word],
+    queue: &mut [Word],
+    walk: &mut [Word],
     out: &mut [u8],
     at: usize,
 ) -> usize
@@ -61,12 +57,12 @@ fn put_move(
     m: Model,
     table: &[u32],
     first: &[u32],
-    targets: &[u16],
+    targets: &[Word],
     p: usize,
     q: usize,
-    far: &mut [u16],
-    queue: &mut [u16],
-    walk: &mut [u16],
+    far: &mut [Word],
+    queue: &mut [Word],
+    walk: &mut [Word],
     out: &mut [u8],
     at: usize,
 ) -> usize
@@ -95,12 +91,12 @@ fn put_moves(
     m: Model,
     table: &[u32],
     first: &[u32],
-    targets: &[u16],
+    targets: &[Word],
     start: usize,
-    path: &[u16],
-    far: &mut [u16],
-    queue: &mut [u16],
-    walk: &mut [u16],
+    path: &[Word],
+    far: &mut [Word],
+    queue: &mut [Word],
+    walk: &mut [Word],
     out: &mut [u8],
     at: usize,
 ) -> usize
@@ -118,7 +114,7 @@ fn put_moves(
     let mut p = start;
     let mut i = 0;
     while i < path.len() {
-        let q = wide(path[i]);
+        let q = from_word(path[i]);
         end = put_move(m, table, first, targets, p, q, far, queue, walk, out, end);
         p = q;
         i += 1;
@@ -131,11 +127,11 @@ pub fn put_trail(
     m: Model,
     table: &[u32],
     first: &[u32],
-    targets: &[u16],
-    path: &[u16],
-    far: &mut [u16],
-    queue: &mut [u16],
-    walk: &mut [u16],
+    targets: &[Word],
+    path: &[Word],
+    far: &mut [Word],
+    queue: &mut [Word],
+    walk: &mut [Word],
     out: &mut [u8],
 ) -> usize
     requires { ⌜
@@ -144,7 +140,7 @@ pub fn put_trail(
         ⌝ }
     ensures { λ r. ⌜ Lays (now (out .entry)) (now (out .exit)) 0 r (spellAll (ourTrailNumbers m)) ⌝ }
 {
-    let start = m.start as usize * region::count(m.clocks, m.ceiling) as usize;
+    let start = m.start as usize * region_table::count(m.clocks, m.ceiling) as usize;
     let a = spelling::put(out, 0, 2);
     let b = spelling::put(out, a, path.len() as u32);
     put_moves(

@@ -1,6 +1,6 @@
 -- Laws for the functions on states: limits of a location and an edge as three numbers, a region of the table and its state, steps by cases.
 use Prim.Native.Nat.{ℕ, zero, suc, _+_, _*_, _-_, _/_, _%_, _≤_, _<_}
-use native.Mathlib.Nat.{add-zero, zero-add, mod-lt, mul-le-mul-right}
+use native.Mathlib.Nat.{add-zero, zero-add, mod-lt, mul-le-mul}
 use native.Mathlib.Omega.{arith}
 use mathlib.Core.Path.{_≡_, refl, sym, ap, ap₂, _∙_, subst}
 use mathlib.Core.Bool.{Bool, true, false, cond, _&&_, and-true, and-false, and-assoc}
@@ -15,29 +15,32 @@ use Rattle.theory.specs.RegionGraph.{allowed, guardHolds, after}
 use Rattle.theory.specs.StateGraph.{regionCount, locationOf, regionOf, indexIn, numberOf, allowedState, stateAt, noEdge, edgeAt, timeFrom, jumpFrom, beside, systemOf}
 use Rattle.theory.proofs.Region.{lawful-law}
 use Rattle.theory.proofs.StateGraph.{at-own-index, number-below, location-below, count-positive}
+use Rattle.limits.specs.Limits.{maxClocks, maxRegions, maxStates}
 use Rattle.region.specs.Limits.{Clocks, Ceiling}
 use Rattle.region.specs.View.{view, structOf, Small, timeOf, laterOf, maskBits, Known}
 use Rattle.region.specs.Packed.{pack, unpack}
-use Rattle.region.specs.Lookup.{foundIn}
+use Rattle.region_table.specs.Lookup.{foundIn}
 use Rattle.region.specs.declared.Region.{Region}
 use Rattle.region.proofs.Views.{three, fits-view, attains-view, face-view, shares-view}
-use Rattle.region.proofs.Known.{known-small, known-found, known-next, known-past, known-reset, listed-length, listed-known}
+use Rattle.region.proofs.Known.{known-small, known-next, known-past, known-reset}
+use Rattle.region_table.proofs.Counts.{regions-few}
+use Rattle.region_table.proofs.Listed.{known-found, listed-length, listed-known}
 use Rattle.model.specs.declared.Model.{Model}
 use Rattle.model.specs.Model.{sourceOf, targetOf, Lawful}
 use Rattle.graph.specs.declared.Next.{Next}
 use Rattle.graph.specs.declared.Next.the-variants.{To, Nothing}
 use Rattle.graph.specs.Plan.{entriesAt, edgeOf, automatonOf}
 use Rattle.graph.specs.States.{Listed, states, nextOf, joined}
-use Rattle.region.specs.declared.Found.the-variants as found
+use Rattle.region_table.specs.declared.Found.the-variants as found
 use Rattle.region.specs.declared.Later.the-variants as later
 
 -- the entries of n clocks are the first n of three
 entries-three : (xs : List ℕ) (i : ℕ) (n : ℕ) → Clocks n
-    → entriesAt n xs i ≡ take n (getD xs (3 * i) 0 ∷ getD xs (3 * i + 1) 0 ∷ getD xs (3 * i + 2) 0 ∷ [])
+    → entriesAt n xs i ≡ take n (getD xs (maxClocks * i) 0 ∷ getD xs (maxClocks * i + 1) 0 ∷ getD xs (maxClocks * i + 2) 0 ∷ [])
 unfolding tab
 entries-three xs i =
-    three (λ n. entriesAt n xs i ≡ take n (getD xs (3 * i) 0 ∷ getD xs (3 * i + 1) 0 ∷ getD xs (3 * i + 2) 0 ∷ []))
-    (rw (add-zero (3 * i))) (rw (add-zero (3 * i))) (rw (add-zero (3 * i)))
+    three (λ n. entriesAt n xs i ≡ take n (getD xs (maxClocks * i) 0 ∷ getD xs (maxClocks * i + 1) 0 ∷ getD xs (maxClocks * i + 2) 0 ∷ []))
+    (rw (add-zero (maxClocks * i))) (rw (add-zero (maxClocks * i))) (rw (add-zero (maxClocks * i)))
 
 -- the list of edges by their numbers
 at-from : {A : Type 0} (f : ℕ → A) (d : A) (k c e : ℕ) → e < c → getD (map f (from k c)) e d ≡ f (k + e)
@@ -55,30 +58,30 @@ module _ (m : Model) (ok : Lawful m) where
   -- ---- limits
 
   pub fits-three : (g : Region) → Known (m .clocks) (m .ceiling) g → (xs : List ℕ) (i : ℕ)
-      → fits (view 3 g) (getD xs (3 * i) 0 ∷ getD xs (3 * i + 1) 0 ∷ getD xs (3 * i + 2) 0 ∷ [])
+      → fits (view maxClocks g) (getD xs (maxClocks * i) 0 ∷ getD xs (maxClocks * i + 1) 0 ∷ getD xs (maxClocks * i + 2) 0 ∷ [])
       ≡ fits (view (m .clocks) g) (entriesAt (m .clocks) xs i)
   fits-three g k xs i =
       fits-view (m .clocks) clocks-of g (k .padded) _ _ _ ∙ ap (fits (view (m .clocks) g)) (sym (entries-three xs i (m .clocks) clocks-of))
 
   attains-three : (g : Region) → Known (m .clocks) (m .ceiling) g → (xs : List ℕ) (i : ℕ)
-      → attains (view 3 g)
-      (getD xs (3 * i) 0 ∷ cond (ltb (m .clocks) 2) 0 (getD xs (3 * i + 1) 0) ∷ cond (ltb (m .clocks) 3) 0 (getD xs (3 * i + 2) 0) ∷ [])
+      → attains (view maxClocks g)
+      (getD xs (maxClocks * i) 0 ∷ cond (ltb (m .clocks) 2) 0 (getD xs (maxClocks * i + 1) 0) ∷ cond (ltb (m .clocks) 3) 0 (getD xs (maxClocks * i + 2) 0) ∷ [])
       ≡ attains (view (m .clocks) g) (entriesAt (m .clocks) xs i)
   attains-three g k xs i =
       attains-view (m .clocks) clocks-of g (k .padded) _ _ _ (past (m .clocks) clocks-of)
       ∙ ap (attains (view (m .clocks) g)) (sym (entries-three xs i (m .clocks) clocks-of ∙ firsts (m .clocks) clocks-of))
     where
       a : ℕ
-      a = getD xs (3 * i) 0
+      a = getD xs (maxClocks * i) 0
 
       b : ℕ
-      b = getD xs (3 * i + 1) 0
+      b = getD xs (maxClocks * i + 1) 0
 
       c : ℕ
-      c = getD xs (3 * i + 2) 0
+      c = getD xs (maxClocks * i + 2) 0
 
-      past : (n : ℕ) → Clocks n → drop n (a ∷ cond (ltb n 2) 0 b ∷ cond (ltb n 3) 0 c ∷ []) ≡ replicate (3 - n) 0
-      past = three (λ n. drop n (a ∷ cond (ltb n 2) 0 b ∷ cond (ltb n 3) 0 c ∷ []) ≡ replicate (3 - n) 0) refl refl refl
+      past : (n : ℕ) → Clocks n → drop n (a ∷ cond (ltb n 2) 0 b ∷ cond (ltb n 3) 0 c ∷ []) ≡ replicate (maxClocks - n) 0
+      past = three (λ n. drop n (a ∷ cond (ltb n 2) 0 b ∷ cond (ltb n 3) 0 c ∷ []) ≡ replicate (maxClocks - n) 0) refl refl refl
 
       firsts : (n : ℕ) → Clocks n → take n (a ∷ b ∷ c ∷ []) ≡ take n (a ∷ cond (ltb n 2) 0 b ∷ cond (ltb n 3) 0 c ∷ [])
       firsts = three (λ n. take n (a ∷ b ∷ c ∷ []) ≡ take n (a ∷ cond (ltb n 2) 0 b ∷ cond (ltb n 3) 0 c ∷ [])) refl refl refl
@@ -88,15 +91,15 @@ module _ (m : Model) (ok : Lawful m) where
 
   -- a guard from its lower limits, then its upper ones; a and b are the lower limits of the second and third clock
   module _ (g : Region) (k : Known (m .clocks) (m .ceiling) g) (e a b : ℕ)
-      (second : a ≡ cond (ltb (m .clocks) 2) 0 (getD (m .lower) (3 * e + 1) 0))
-      (third : b ≡ cond (ltb (m .clocks) 3) 0 (getD (m .lower) (3 * e + 2) 0))
-      (t : Bool) (r : t ≡ attains (view 3 g) (getD (m .lower) (3 * e) 0 ∷ a ∷ b ∷ [])) where
+      (second : a ≡ cond (ltb (m .clocks) 2) 0 (getD (m .lower) (maxClocks * e + 1) 0))
+      (third : b ≡ cond (ltb (m .clocks) 3) 0 (getD (m .lower) (maxClocks * e + 2) 0))
+      (t : Bool) (r : t ≡ attains (view maxClocks g) (getD (m .lower) (maxClocks * e) 0 ∷ a ∷ b ∷ [])) where
     lower-is : attains (view (m .clocks) g) (entriesAt (m .clocks) (m .lower) e) ≡ t
     lower-is =
-        sym (r ∙ ap₂ (λ x y. attains (view 3 g) (getD (m .lower) (3 * e) 0 ∷ x ∷ y ∷ [])) second third ∙ attains-three g k (m .lower) e)
+        sym (r ∙ ap₂ (λ x y. attains (view maxClocks g) (getD (m .lower) (maxClocks * e) 0 ∷ x ∷ y ∷ [])) second third ∙ attains-three g k (m .lower) e)
 
     pub guard-opens : t ≡ true
-        → fits (view 3 g) (getD (m .upper) (3 * e) 0 ∷ getD (m .upper) (3 * e + 1) 0 ∷ getD (m .upper) (3 * e + 2) 0 ∷ [])
+        → fits (view maxClocks g) (getD (m .upper) (maxClocks * e) 0 ∷ getD (m .upper) (maxClocks * e + 1) 0 ∷ getD (m .upper) (maxClocks * e + 2) 0 ∷ [])
         ≡ guardHolds (edgeOf m e) (view (m .clocks) g)
     unfolding guardHolds
     guard-opens o = rw (lower-is ∙ o) (fits-three g k (m .upper) e)
@@ -105,18 +108,22 @@ module _ (m : Model) (ok : Lawful m) where
     unfolding guardHolds
     guard-shuts o = rw (lower-is ∙ o)
 
+  -- ---- how many
+
+  pub regions-limit : regionCount (automatonOf m) ≤ maxRegions
+  unfolding automatonOf regionCount
+  regions-limit = regions-few (m .clocks) (m .ceiling) clocks-of ceiling-of
+
+  -- "S is L times the count"
+  pub states-limit : states m ≤ maxStates
+  states-limit = mul-le-mul (ok .locations .1) regions-limit
+
   -- ---- the table
 
   module _ (table : List ℕ) (listed : Listed m table) where
     pub count-length : length table ≡ regionCount (automatonOf m)
     unfolding automatonOf regionCount
     count-length = listed-length (m .clocks) (m .ceiling) clocks-of ceiling-of table listed
-
-    pub states-most : states m ≤ 8 * length table
-    states-most =
-        let e : states m ≡ m .locations * length table = ap (λ c. m .locations * c) (sym count-length) in
-        let b : m .locations * length table ≤ 8 * length table = mul-le-mul-right (length table) (ok .locations .1) in
-        omega arith
 
     module _ (p : ℕ) (below : p < states m) where
       -- a location's number is p divided by the length, and it is a location
@@ -277,7 +284,7 @@ module _ (m : Model) (ok : Lawful m) where
           jump-is c = rw (edge-is e l, sym stays-allowed ∙ o, starts, ← (d .1), c)
 
           pub jump-moves : guardHolds (edgeOf m e) (view (m .clocks) g) ≡ true
-              → (x : Region) → x ≡ structOf (closeUp (resetClocks (maskBits 3 (getD (m .reset) e 0)) (view 3 g)))
+              → (x : Region) → x ≡ structOf (closeUp (resetClocks (maskBits maxClocks (getD (m .reset) e 0)) (view maxClocks g)))
               → (r : Next) → r ≡ nextOf m (stateAt (automatonOf m) (m .locations) (targetOf m e) (view (m .clocks) x))
               → r ≡ nextOf m (jumpFrom (automatonOf m) (m .locations) e p)
           jump-moves c x q r t =
@@ -287,7 +294,7 @@ module _ (m : Model) (ok : Lawful m) where
               ∙ ap (nextOf m) (sym (jump-is c))
 
   pub reset-known : (mask : ℕ) (g x : Region) → Known (m .clocks) (m .ceiling) g
-      → x ≡ structOf (closeUp (resetClocks (maskBits 3 mask) (view 3 g))) → Known (m .clocks) (m .ceiling) x
+      → x ≡ structOf (closeUp (resetClocks (maskBits maxClocks mask) (view maxClocks g))) → Known (m .clocks) (m .ceiling) x
   reset-known mask g x k q = known-reset (m .clocks) (m .ceiling) clocks-of ceiling-of mask g x k q .0
 
   -- ---- two states
@@ -325,8 +332,8 @@ module _ (m : Model) (ok : Lawful m) where
 
   module _ (p q : ℕ) (g x : Region) (d : Known (m .clocks) (m .ceiling) g × (view (m .clocks) g ≡ regionOf (automatonOf m) p))
       (e : Known (m .clocks) (m .ceiling) x × (view (m .clocks) x ≡ regionOf (automatonOf m) q)) where
-    pub face-of : face (view 3 g) (view 3 x) ≡ face (regionOf (automatonOf m) p) (regionOf (automatonOf m) q)
+    pub face-of : face (view maxClocks g) (view maxClocks x) ≡ face (regionOf (automatonOf m) p) (regionOf (automatonOf m) q)
     face-of = face-view (m .clocks) clocks-of g x (d .0 .padded) (e .0 .padded) ∙ ap₂ face (d .1) (e .1)
 
-    pub shares-of : shares (view 3 g) (view 3 x) ≡ shares (regionOf (automatonOf m) p) (regionOf (automatonOf m) q)
+    pub shares-of : shares (view maxClocks g) (view maxClocks x) ≡ shares (regionOf (automatonOf m) p) (regionOf (automatonOf m) q)
     shares-of = shares-view (m .clocks) clocks-of g x (d .0 .padded) (e .0 .padded) ∙ ap₂ shares (d .1) (e .1)

@@ -5,7 +5,7 @@ use mathlib.Core.Bool.{Bool, cond, _&&_}
 use mathlib.Core.List.{List}
 use lib.Dec.{ltb, eqb}
 use Rattle.theory.specs.StateGraph.{stateCount, locationOf, allowedState}
-use Rattle.region.specs.Packed.{packedRegions}
+use Rattle.region_table.specs.Table.{packedRegions}
 use Rattle.model.specs.declared.Model.{Model}
 use Rattle.graph.specs.Plan.{automatonOf}
 use Rattle.graph.specs.declared.Next.{Next}

@@ -1,5 +1,5 @@
 // The states of a model by their numbers: allowed, forbidden, time and jump steps, faces, shared corners.
-// `table` is the list of the model's regions, packed, as region::select gives it; state p is region p % len of location p / len.
+// `table` is the list of the model's regions, packed, as region_table::select gives it; state p is region p % len of location p / len.
 ghost use mathlib.Core.Path.{_≡_};
 ghost use mathlib.Core.Bool.{cond};
 ghost use Prim.Native.Nat.{_<_};
@@ -12,9 +12,9 @@ ghost use Rattle.model.specs.Model.{Lawful};
 ghost use Rattle.graph.specs.Plan.{automatonOf, edgeOf, systemOfModel};
 ghost use Rattle.graph.specs.States.{Listed, states, nextOf, joined};
 use model::Model;
-use region::Found;
 use region::Later;
 use region::Region;
+use region_table::Found;
 
 // Where a step leads.
 pub enum Next {
@@ -27,7 +27,7 @@ pub fn state_count(m: Model) -> usize
     requires { ⌜ Lawful m ⌝ }
     ensures { λ r. ⌜ r ≡ states m ⌝ }
 {
-    m.locations as usize * region::count(m.clocks, m.ceiling) as usize
+    m.locations as usize * region_table::count(m.clocks, m.ceiling) as usize
 }
 
 // The region of a state.
@@ -78,7 +78,7 @@ pub fn state_at(m: Model, table: &[u32], l: usize, g: Region) -> Next
     ensures { λ r. ⌜ r ≡ nextOf m (stateAt (automatonOf m) (m .locations) l (view (m .clocks) g)) ⌝ }
 {
     if stays(m, l, g) {
-        let found = region::find(table, g.pack());
+        let found = region_table::find(table, g.pack());
         let Found::At(i) = found else {
             return Next::Nothing;
         };

@@ -4,8 +4,8 @@ ghost use Rattle.model.specs.Model.{Lawful};
 ghost use Rattle.graph.specs.States.{Listed, states};
 use graph::Next;
 use libc::STDOUT_FILENO;
+use limits::MAX_REGIONS;
 use model::Model;
-use region::table::LENGTH;
 
 const MODULUS: u64 = 1000003;
 
@@ -98,8 +98,8 @@ fn print_steps(m: Model, table: &[u32])
 fn show(m: Model)
     requires { ⌜ Lawful m ⌝ }
 {
-    let mut all = [0u32; LENGTH];
-    let count = region::select(m.clocks, m.ceiling, &mut all);
+    let mut all = [0u32; MAX_REGIONS];
+    let count = region_table::select(m.clocks, m.ceiling, &mut all);
     print_steps(m, &all[..count]);
 }
 

@@ -9,7 +9,7 @@ use lib.ListN.{take, getD}
 use borrow.Author.Tests.{eq-eqb, ne-eqb}
 use Rattle.theory.specs.Below.{tab}
 use Rattle.theory.specs.Automaton.{resetValues}
-use Rattle.robust.specs.Margin.{halfValues, lowest, entryLimits}
+use Rattle.robust.specs.Margin.{halfValues, lowest, entryLimits, maxFactor, maxValues}
 use Rattle.region.specs.Limits.{Clocks}
 use Rattle.region.specs.View.{maskBits}
 use Rattle.region.proofs.Views.{three}
@@ -17,7 +17,7 @@ use Rattle.model.specs.declared.Model.{Model}
 use Rattle.model.specs.Model.{slot, sourceOf, targetOf, Lawful}
 use Rattle.graph.specs.Plan.{automatonOf, edgeOf}
 use Rattle.graph.proofs.States.{clocks-of}
-use Rattle.margin.specs.Limits.{mostFactor, mostValues, stayLimit, entryLimit}
+use Rattle.margin.specs.Limits.{stayLimit, entryLimit}
 
 -- ---- tables
 
@@ -80,7 +80,7 @@ three-factors n a b c x y z h p q s = rw (p, q, s) (by n h)
     by : (n : ℕ) → Clocks n → factors n ≡ halfValues (take n (a ∷ b ∷ c ∷ []))
     by = three (λ n. factors n ≡ halfValues (take n (a ∷ b ∷ c ∷ []))) refl refl (rw (mul-one (2 * c + 1)))
 
-pub product-most : {x y z : ℕ} → x ≤ mostFactor → y ≤ mostFactor → z ≤ mostFactor → (y * z ≤ 81) × (x * (y * z) ≤ mostValues)
+pub product-most : {x y z : ℕ} → x ≤ maxFactor → y ≤ maxFactor → z ≤ maxFactor → (y * z ≤ maxFactor * maxFactor) × (x * (y * z) ≤ maxValues)
 product-most h i j = let p = mul-le-mul i j in (p, mul-le-mul h p)
 
 module _ (m : Model) (ok : Lawful m) where

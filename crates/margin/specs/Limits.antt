@@ -6,14 +6,6 @@ use lib.Dec.{eqb}
 use Rattle.model.specs.declared.Model.{Model}
 use Rattle.model.specs.Model.{slot, sourceOf, targetOf}
 
--- half values of a clock up to the largest ceiling, 2 * 4 + 1,
-abbrev pub mostFactor : ℕ
-mostFactor = 9
-
--- and of three clocks
-abbrev pub mostValues : ℕ
-mostValues = 729
-
 abbrev pub stayLimit : Model → ℕ → ℕ → ℕ
 stayLimit m l x = getD (m .invariant) (slot l x) 0
 

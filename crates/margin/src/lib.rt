@@ -6,12 +6,12 @@ ghost use Prim.Native.Nat.{_+_, _*_, _≤_, _<_, min};
 ghost use lib.Dec.{ltb, eqb};
 ghost use lib.ListN.{take};
 ghost use Rattle.theory.specs.Below.{bit};
-ghost use Rattle.robust.specs.Margin.{halfValues, entryLimits, entriesBy, entriesOf, margin as marginOf};
-ghost use Rattle.region.specs.Limits.{Clocks, mostClocks, mostCeiling};
-ghost use Rattle.model.specs.Limits.{maxEdges};
+ghost use Rattle.robust.specs.Margin.{halfValues, entryLimits, entriesBy, entriesOf, margin as marginOf, maxFactor, maxValues};
+ghost use Rattle.region.specs.Limits.{Clocks};
+ghost use Rattle.limits.specs.Limits.{maxClocks, maxCeiling, maxEdges};
 ghost use Rattle.model.specs.Model.{Lawful, targetOf};
 ghost use Rattle.graph.specs.Plan.{automatonOf, edgeOf};
-ghost use Rattle.margin.specs.Limits.{mostFactor, mostValues, stayLimit, entryLimit};
+ghost use Rattle.margin.specs.Limits.{stayLimit, entryLimit};
 use model::Model;
 
 fn lower(a: u32, b: u32) -> u32
@@ -23,16 +23,16 @@ fn lower(a: u32, b: u32) -> u32
 // ---- Limits.
 
 fn stay_limit(m: Model, l: usize, x: usize) -> u32
-    requires { ⌜ Lawful m × (l < m .locations) × (x < mostClocks) ⌝ }
-    ensures { λ r. ⌜ (r ≡ stayLimit m l x) × (r ≤ mostCeiling) ⌝ }
+    requires { ⌜ Lawful m × (l < m .locations) × (x < maxClocks) ⌝ }
+    ensures { λ r. ⌜ (r ≡ stayLimit m l x) × (r ≤ maxCeiling) ⌝ }
 {
     m.invariant[model::STRIDE * l + x] as u32
 }
 
 // What a jump along an edge leaves on a clock at most.
 fn entry_limit(m: Model, e: usize, x: usize) -> u32
-    requires { ⌜ Lawful m × (e < m .edges) × (x < mostClocks) ⌝ }
-    ensures { λ r. ⌜ (r ≡ entryLimit m e x) × (r ≤ mostCeiling) ⌝ }
+    requires { ⌜ Lawful m × (e < m .edges) × (x < maxClocks) ⌝ }
+    ensures { λ r. ⌜ (r ≡ entryLimit m e x) × (r ≤ maxCeiling) ⌝ }
 {
     if (m.reset[e] >> x) % 2 == 1 {
         return 0;
@@ -47,22 +47,22 @@ fn entry_limit(m: Model, e: usize, x: usize) -> u32
 
 // The half values of a clock, or 1 if it is not counted.
 fn factor(clocks: u8, x: u8, limit: u32) -> u32
-    requires { ⌜ limit ≤ mostCeiling ⌝ }
-    ensures { λ r. ⌜ (r ≡ cond (ltb x clocks) (2 * limit + 1) 1) × (r ≤ mostFactor) ⌝ }
+    requires { ⌜ limit ≤ maxCeiling ⌝ }
+    ensures { λ r. ⌜ (r ≡ cond (ltb x clocks) (2 * limit + 1) 1) × (r ≤ maxFactor) ⌝ }
 {
     if x < clocks { 2 * limit + 1 } else { 1 }
 }
 
 fn half_values(clocks: u8, a: u32, b: u32, c: u32) -> u32
-    requires { ⌜ Clocks clocks × (a ≤ mostCeiling) × (b ≤ mostCeiling) × (c ≤ mostCeiling) ⌝ }
-    ensures { λ r. ⌜ (r ≡ halfValues (take clocks (a ∷ b ∷ c ∷ []))) × (r ≤ mostValues) ⌝ }
+    requires { ⌜ Clocks clocks × (a ≤ maxCeiling) × (b ≤ maxCeiling) × (c ≤ maxCeiling) ⌝ }
+    ensures { λ r. ⌜ (r ≡ halfValues (take clocks (a ∷ b ∷ c ∷ []))) × (r ≤ maxValues) ⌝ }
 {
     factor(clocks, 0, a) * (factor(clocks, 1, b) * factor(clocks, 2, c))
 }
 
 fn stay_values(m: Model, l: usize) -> u32
     requires { ⌜ Lawful m × (l < m .locations) ⌝ }
-    ensures { λ r. ⌜ (r ≡ halfValues (automatonOf m .invariant l)) × (r ≤ mostValues) ⌝ }
+    ensures { λ r. ⌜ (r ≡ halfValues (automatonOf m .invariant l)) × (r ≤ maxValues) ⌝ }
 {
     half_values(
         m.clocks,
@@ -74,7 +74,7 @@ fn stay_values(m: Model, l: usize) -> u32
 
 fn entry_values(m: Model, e: usize) -> u32
     requires { ⌜ Lawful m × (e < m .edges) ⌝ }
-    ensures { λ r. ⌜ (r ≡ halfValues (entryLimits (automatonOf m) (edgeOf m e))) × (r ≤ mostValues) ⌝ }
+    ensures { λ r. ⌜ (r ≡ halfValues (entryLimits (automatonOf m) (edgeOf m e))) × (r ≤ maxValues) ⌝ }
 {
     half_values(
         m.clocks,
@@ -95,10 +95,10 @@ fn by_start(m: Model, l: usize) -> u32
 
 // The count with the entries by an edge, if it leads to the location.
 fn with_edge(m: Model, l: usize, e: usize, count: u32) -> u32
-    requires { ⌜ Lawful m × (e < m .edges) × (count ≤ maxEdges * mostValues) ⌝ }
+    requires { ⌜ Lawful m × (e < m .edges) × (count ≤ maxEdges * maxValues) ⌝ }
     ensures { λ r. ⌜
         (r ≡ cond (eqb (targetOf m e) l) (halfValues (entryLimits (automatonOf m) (edgeOf m e)) + count) count)
-        × (r ≤ mostValues + count)
+        × (r ≤ maxValues + count)
         ⌝ }
 {
     if m.target[e] as usize == l {
@@ -123,7 +123,7 @@ fn entries_by(m: Model, l: usize) -> u32
 
 fn entries_of(m: Model, l: usize) -> u32
     requires { ⌜ Lawful m × (l < m .locations) ⌝ }
-    ensures { λ r. ⌜ (r ≡ entriesOf (automatonOf m) l) × (r ≤ mostValues) ⌝ }
+    ensures { λ r. ⌜ (r ≡ entriesOf (automatonOf m) l) × (r ≤ maxValues) ⌝ }
 {
     lower(stay_values(m, l), entries_by(m, l))
 }

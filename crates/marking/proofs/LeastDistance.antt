@@ -39,10 +39,10 @@ fewest-next S goal f i d r b F L = record {
     by p l g z (no e) = omega (arith, F .least p (omega arith) g z, L .less)
 
 -- at the end, with the kinds of locations for the goal
-pub fewest-end : (Y : System) → Laws Y → (R d : ℕ) (far kind : List ℕ) → Distances Y far → Forbids Y R kind → d ≤ length far
-    → Fewest (length far) (λ p. eqb (getD kind (p / R) 0) 1) (λ p. getD far p 0) (length far) d → d ≡ trailSteps Y
-fewest-end Y L R d far kind D K b F =
-    fewest-trail Y L (λ p. getD far p 0) (D .is) d (omega (arith, D .long)) (record {
+pub fewest-end : (Y : System) → Laws Y → (R d : ℕ) (distance kind : List ℕ) → Distances Y distance → Forbids Y R kind → d ≤ length distance
+    → Fewest (length distance) (λ p. eqb (getD kind (p / R) 0) 1) (λ p. getD distance p 0) (length distance) d → d ≡ trailSteps Y
+fewest-end Y L R d distance kind D K b F =
+    fewest-trail Y L (λ p. getD distance p 0) (D .is) d (omega (arith, D .long)) (record {
       least = λ p l g. F .least p (omega (arith, D .long)) (sym (K p l) ∙ g);
       some = ⊎-elim (λ e. inl (e ∙ D .long)) (λ (p, l, g, e). let h : p < Y .size = omega (arith, D .long) in inr (p, h, K p h ∙ g, e)) (F .some);
     })

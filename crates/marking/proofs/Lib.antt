@@ -1,14 +1,12 @@
 -- Laws behind the functions' proofs.
 
--- A list that a loop fills with zeros.
-pub mod Zero
--- Counts of places that pass a test.
-pub mod Count
--- What is taken in, part after part.
-pub mod Queue
--- The sets of states that loops go through.
+-- The parts of the slice that holds the tables by region.
 pub mod Parts
--- What the arrays lead to is what the system's steps lead to; rounds and their end.
-pub mod Rounds
+-- The slots of a chain hold a point; locations and their flags.
+pub mod Corners
+-- What a state leads to, part after part.
+pub mod Leading
+-- What the tables lead to is what the system's steps lead to; the marked states are those that are reached.
+pub mod Steps
 -- The least distance of a goal.
 pub mod LeastDistance

@@ -1,10 +1,8 @@
 -- What the search for distances reads, and what it promises.
 
--- The largest number of states.
-pub mod Limits
--- The arrays of a system.
+-- The tables of a system, and the distances.
 pub mod Tables
--- What the functions of the search do with the array of distances and the queue.
-pub mod Queue
+-- The states that have a corner at a point, and the flags of points.
+pub mod Corners
 -- The least distance of a goal.
 pub mod LeastDistance

@@ -3,18 +3,17 @@
 ghost use mathlib.Core.Path.{_≡_};
 ghost use Prim.Native.Nat.{ℕ, _≤_, _<_};
 ghost use lib.ListN.{length, getD};
-ghost use Rattle.theory.specs.Below.{count};
-ghost use Rattle.theory.specs.System.{System, Laws};
-ghost use Rattle.theory.specs.Marked.{marks};
-ghost use Rattle.marking.specs.Limits.{stateLimit};
-ghost use Rattle.marking.specs.Tables.{Shape, Tables, Distances};
-ghost use Rattle.marking.specs.Queue.{Fits, TakesAll, LeadsFrom, Notes};
+ghost use Rattle.search.specs.Rows.{Rows};
+ghost use Rattle.search.specs.Queue.{LeadsFrom};
+ghost use Rattle.marking.specs.Tables.{Shape, Spots, Leads, Searched};
+ghost use Rattle.marking.specs.Corners.{Ready, TakesNoted};
+use limits::Word;
+use limits::cast::from_word;
 
 mod reach;
 mod tally;
 
 use reach::spread;
-use reach::wide;
 pub use tally::count_marked;
 pub use tally::fewest;
 
@@ -22,48 +21,38 @@ pub use tally::fewest;
 fn round(
     regions: usize,
     first: &[u32],
-    targets: &[u16],
-    rows: &[u16],
-    faces: &[u16],
-    corner: &[u16],
-    head: &[u16],
-    link: &[u16],
-    info: &[u16],
-    far: &mut [u16],
-    queue: &mut [u16],
+    targets: &[Word],
+    shapes: &[Word],
+    heights: &[Word],
+    distance: &mut [Word],
+    queue: &mut [Word],
     noted: &mut [u8],
-    x: u16,
+    x: Word,
     lo: usize,
     hi: usize,
 ) -> usize
     requires { ⌜
-        (x ≤ stateLimit) × (lo ≤ hi)
-        × Shape (length (now far)) regions (now first) (now targets) (now rows) (now faces) (now corner) (now head) (now link)
-        (now info) (length (now noted))
-        × Notes regions (length (now head)) (now corner) (now info) (now noted) (now far) × Fits (now far) (now queue) hi
+        (lo ≤ hi) × Rows (now first) (now targets) (length (now distance))
+        × Ready regions x (now shapes) (now heights) (now noted) (now distance) (now queue) hi
         ⌝ }
     ensures { λ r. ⌜
-        TakesAll x (LeadsFrom regions (now (first .entry)) (now (targets .entry)) (now (rows .entry)) (now (faces .entry))
-        (now (corner .entry)) (now (info .entry)) (now (queue .entry)) lo hi)
-        (now (far .entry)) (now (far .exit)) (now (queue .entry)) (now (queue .exit)) hi r
-        × Notes regions (length (now (head .entry))) (now (corner .entry)) (now (info .entry)) (now (noted .exit)) (now (far .exit))
+        TakesNoted regions x
+        (LeadsFrom (Leads regions (now (first .entry)) (now (targets .entry)) (now (shapes .entry)) (now (heights .entry)))
+        (now (queue .entry)) lo hi) (now (shapes .entry)) (now (heights .entry)) (now (noted .exit))
+        (now (distance .entry)) (now (distance .exit)) (now (queue .entry)) (now (queue .exit)) hi r
         ⌝ }
 {
     let mut n = hi;
     let mut i = lo;
     while i < hi {
-        let p = wide(queue[i]);
+        let p = from_word(queue[i]);
         n = spread(
             regions,
             first,
             targets,
-            rows,
-            faces,
-            corner,
-            head,
-            link,
-            info,
-            far,
+            shapes,
+            heights,
+            distance,
             queue,
             noted,
             x,
@@ -75,60 +64,46 @@ fn round(
     n
 }
 
-// All places at 0.
-fn clear(a: &mut [u16])
-    ensures { λ _. ⌜ ((i : ℕ) → getD (now (a .exit)) i 0 ≡ 0) ⌝ }
+// All flags at 0.
+fn clear_noted(noted: &mut [u8])
+    ensures { λ _. ⌜ ((i : ℕ) → getD (now (noted .exit)) i 0 ≡ 0) ⌝ }
 {
     let mut i = 0;
-    while i < a.len() {
-        a[i] = 0;
+    while i < noted.len() {
+        noted[i] = 0;
         i += 1;
     }
 }
 
-fn clear_flags(flags: &mut [u8])
-    ensures { λ _. ⌜ ((i : ℕ) → getD (now (flags .exit)) i 0 ≡ 0) ⌝ }
-{
-    let mut i = 0;
-    while i < flags.len() {
-        flags[i] = 0;
-        i += 1;
-    }
-}
-
-// Into `far` the distance of every state from the start plus one, or 0 where no steps lead to it; the number of rounds. `queue` and `noted` may
-// hold anything, and are left changed. `noted` has a flag for each location and point: set once the states there are taken in.
+// Into `distance` the distance of every state from the start plus one, or 0 where no steps lead to it; the number of rounds. `queue` and `noted` may
+// hold anything; `queue` is left with the marked states, level by level. `noted` has a flag for each location and point: set once the states there
+// are taken in.
 pub fn distances(
     start: usize,
     regions: usize,
     first: &[u32],
-    targets: &[u16],
-    rows: &[u16],
-    faces: &[u16],
-    corner: &[u16],
-    head: &[u16],
-    link: &[u16],
-    info: &[u16],
-    far: &mut [u16],
-    queue: &mut [u16],
+    targets: &[Word],
+    shapes: &[Word],
+    heights: &[Word],
+    distance: &mut [Word],
+    queue: &mut [Word],
     noted: &mut [u8],
-) -> u16
+) -> Word
     requires { ⌜
-        (start < length (now far)) × (length (now queue) ≡ length (now far))
-        × Shape (length (now far)) regions (now first) (now targets) (now rows) (now faces) (now corner) (now head) (now link)
-        (now info) (length (now noted))
+        (start < length (now distance)) × (length (now queue) ≡ length (now distance))
+        × Shape (length (now distance)) regions (now first) (now targets) (now shapes) (now heights)
+        × Spots (length (now distance)) regions (length (now noted))
         ⌝ }
     ensures { λ r. ⌜
-        ((Y : System) → Laws Y → Y .size ≡ length (now (far .entry)) → Tables Y start regions (now (first .entry))
-        (now (targets .entry)) (now (rows .entry)) (now (faces .entry)) (now (corner .entry)) (now (info .entry))
-        → Distances Y (now (far .exit)) × (r ≤ count (Y .size) (marks Y)))
+        Searched start regions (now (first .entry)) (now (targets .entry)) (now (shapes .entry)) (now (heights .entry))
+        (now (distance .exit)) (now (queue .exit)) r
         ⌝ }
 {
-    clear(far);
-    clear_flags(noted);
-    far[start] = 1;
-    queue[0] = start as u16;
-    let mut x: u16 = 1;
+    search::clear(distance);
+    clear_noted(noted);
+    distance[start] = 1;
+    queue[0] = start as Word;
+    let mut x: Word = 1;
     let mut lo = 0;
     let mut hi = 1;
     while lo < hi {
@@ -136,13 +111,9 @@ pub fn distances(
             regions,
             first,
             targets,
-            rows,
-            faces,
-            corner,
-            head,
-            link,
-            info,
-            far,
+            shapes,
+            heights,
+            distance,
             queue,
             noted,
             x,

@@ -1,245 +1,188 @@
 // What a state at a level leads to: the states not reached before get the next level and a place in the queue.
 
 ghost use mathlib.Core.Path.{_≡_};
-ghost use mathlib.Core.List.{List};
-ghost use Prim.Native.Nat.{ℕ, _+_, _*_, _/_, _%_, _≤_, _<_};
+ghost use Prim.Native.Nat.{ℕ, _+_, _*_, _%_, _≤_, _<_};
 ghost use lib.ListN.{length, getD};
-ghost use Rattle.theory.specs.Adjacency.{Chain};
-ghost use Rattle.marking.specs.Limits.{stateLimit};
-ghost use Rattle.marking.specs.Tables.{Rows, Corners, Shape, Leads};
-ghost use Rattle.marking.specs.Queue.{Fits, TakesAll, Listed, OnChain, AtPoint, Touches, Notes};
-
-pub fn wide(x: u16) -> usize
-    ensures { λ r. ⌜ r ≡ x ⌝ }
-{
-    x as usize
-}
-
-fn place(x: u32) -> usize
-    ensures { λ r. ⌜ r ≡ x ⌝ }
-{
-    x as usize
-}
-
-// If q is not reached, it gets level x + 1 and stands at the queue's end, place n; the queue's new end.
-fn take_in(far: &mut [u16], queue: &mut [u16], x: u16, q: usize, n: usize) -> usize
-    requires { ⌜ (x ≤ stateLimit) × (q < length (now far)) × Fits (now far) (now queue) n ⌝ }
-    ensures { λ r. ⌜ TakesAll x (λ y. y ≡ q) (now (far .entry)) (now (far .exit)) (now (queue .entry)) (now (queue .exit)) n r ⌝ }
-{
-    if far[q] == 0 {
-        far[q] = x + 1;
-        queue[n] = q as u16;
-        return n + 1;
-    }
-    n
-}
-
-// The same for `base` plus each number that stands in `list` from place `from` up to `to`.
-fn take_listed(
-    list: &[u16],
-    from: usize,
-    to: usize,
-    base: usize,
-    far: &mut [u16],
-    queue: &mut [u16],
-    x: u16,
-    n: usize,
-) -> usize
-    requires { ⌜
-        (x ≤ stateLimit) × (from ≤ to) × (to ≤ length (now list))
-        × ((i : ℕ) → i < to → base + getD (now list) i 0 < length (now far)) × Fits (now far) (now queue) n
-        ⌝ }
-    ensures { λ r. ⌜
-        TakesAll x (Listed (now (list .entry)) base from to)
-        (now (far .entry)) (now (far .exit)) (now (queue .entry)) (now (queue .exit)) n r
-        ⌝ }
-{
-    let mut end = n;
-    let mut i = from;
-    while i < to {
-        let q = base + wide(list[i]);
-        end = take_in(far, queue, x, q, end);
-        i += 1;
-    }
-    end
-}
-
-// The time and jump steps of p.
-fn take_flow(
-    first: &[u32],
-    targets: &[u16],
-    far: &mut [u16],
-    queue: &mut [u16],
-    x: u16,
-    p: usize,
-    n: usize,
-) -> usize
-    requires { ⌜
-        (x ≤ stateLimit) × (p < length (now far)) × Rows (now first) (now targets) (length (now far))
-        × Fits (now far) (now queue) n
-        ⌝ }
-    ensures { λ r. ⌜
-        TakesAll x (Listed (now (targets .entry)) 0 (getD (now (first .entry)) p 0) (getD (now (first .entry)) (p + 1) 0))
-        (now (far .entry)) (now (far .exit)) (now (queue .entry)) (now (queue .exit)) n r
-        ⌝ }
-{
-    let from = place(first[p]);
-    let to = place(first[p + 1]);
-    take_listed(targets, from, to, 0, far, queue, x, n)
-}
+ghost use Rattle.limits.specs.Limits.{maxStates, slotCount, pointCount};
+ghost use Rattle.shapes.specs.Layout.{rowsIn, facesIn, cornersIn};
+ghost use Rattle.search.specs.Rows.{Rows};
+ghost use Rattle.search.specs.Queue.{Fits, TakesAll, Listed};
+ghost use Rattle.marking.specs.Tables.{Faces, RegionTables, Leads};
+ghost use Rattle.marking.specs.Corners.{AtPoint, Touches, Ready, TakesNoted};
+use limits::POINTS;
+use limits::SLOTS;
+use limits::Word;
+use limits::cast::from_word;
+use search::take_in;
+use search::take_listed;
+use search::take_row;
+use shapes::corners_at;
+use shapes::faces_at;
+use shapes::heads_at;
+use shapes::links_at;
 
 // The face steps of region i of a location.
 fn take_faces(
     regions: usize,
-    rows: &[u16],
-    faces: &[u16],
-    far: &mut [u16],
-    queue: &mut [u16],
-    x: u16,
+    shapes: &[Word],
+    distance: &mut [Word],
+    queue: &mut [Word],
+    x: Word,
     location: usize,
     i: usize,
     n: usize,
 ) -> usize
     requires { ⌜
-        (x ≤ stateLimit) × (location * regions + regions ≤ length (now far)) × (i < regions)
-        × Rows (now rows) (now faces) regions × Fits (now far) (now queue) n
+        (x ≤ maxStates) × (location * regions + regions ≤ length (now distance)) × (i < regions)
+        × Faces regions (now shapes) × Fits (now distance) (now queue) n
         ⌝ }
     ensures { λ r. ⌜
         TakesAll x
-        (Listed (now (faces .entry)) (location * regions) (getD (now (rows .entry)) i 0) (getD (now (rows .entry)) (i + 1) 0))
-        (now (far .entry)) (now (far .exit)) (now (queue .entry)) (now (queue .exit)) n r
+        (Listed (facesIn regions (now (shapes .entry))) (location * regions) (getD (rowsIn regions (now (shapes .entry))) i 0)
+        (getD (rowsIn regions (now (shapes .entry))) (i + 1) 0))
+        (now (distance .entry)) (now (distance .exit)) (now (queue .entry)) (now (queue .exit)) n r
         ⌝ }
 {
-    let from = wide(rows[i]);
-    let to = wide(rows[i + 1]);
-    take_listed(faces, from, to, location * regions, far, queue, x, n)
+    let from = from_word(shapes[i]);
+    let to = from_word(shapes[i + 1]);
+    let a = faces_at(regions);
+    let b = corners_at(regions);
+    take_listed(
+        &shapes[a..b],
+        from,
+        to,
+        location * regions,
+        distance,
+        queue,
+        x,
+        n,
+    )
 }
 
-// The same for q, if it lies on a closed walk.
+// If q lies on a closed walk, it is taken in.
 fn take_closed(
-    info: &[u16],
-    far: &mut [u16],
-    queue: &mut [u16],
-    x: u16,
+    heights: &[Word],
+    distance: &mut [Word],
+    queue: &mut [Word],
+    x: Word,
     q: usize,
     n: usize,
 ) -> usize
-    requires { ⌜ (x ≤ stateLimit) × (q < length (now far)) × (length (now info) ≡ length (now far)) × Fits (now far) (now queue) n ⌝ }
+    requires { ⌜
+        (x ≤ maxStates) × (q < length (now distance)) × (length (now heights) ≡ length (now distance))
+        × Fits (now distance) (now queue) n
+        ⌝ }
     ensures { λ r. ⌜
-        TakesAll x (λ y. (y ≡ q) × (getD (now (info .entry)) q 0 % 2 ≡ 1))
-        (now (far .entry)) (now (far .exit)) (now (queue .entry)) (now (queue .exit)) n r
+        TakesAll x (λ y. (y ≡ q) × (getD (now (heights .entry)) q 0 % 2 ≡ 1))
+        (now (distance .entry)) (now (distance .exit)) (now (queue .entry)) (now (queue .exit)) n r
         ⌝ }
 {
-    if info[q] % 2 == 1 {
-        return take_in(far, queue, x, q, n);
+    if heights[q] % 2 == 1 {
+        return take_in(distance, queue, x, q, n);
     }
     n
 }
 
-// The same for the states at the slots of a chain; slot s is of region s / 4.
-fn take_chain(
-    link: &[u16],
-    info: &[u16],
-    from: u16,
-    base: usize,
-    far: &mut [u16],
-    queue: &mut [u16],
-    x: u16,
+// The same for the states of a location that have a corner at point v: those at the slots of its chain.
+fn take_point(
+    regions: usize,
+    shapes: &[Word],
+    heights: &[Word],
+    distance: &mut [Word],
+    queue: &mut [Word],
+    x: Word,
+    location: usize,
+    v: usize,
     n: usize,
 ) -> usize
     requires { ⌜
-        (x ≤ stateLimit) × ((s : ℕ) → s < length (now link) → base + s / 4 < length (now far))
-        × (length (now info) ≡ length (now far)) × ((l : List ℕ) × Chain (now link) from l) × Fits (now far) (now queue) n
+        (x ≤ maxStates) × (location * regions < length (now distance)) × (v < pointCount)
+        × RegionTables (length (now distance)) regions (now shapes) (now heights) × Fits (now distance) (now queue) n
         ⌝ }
     ensures { λ r. ⌜
-        TakesAll x (OnChain (now (link .entry)) (now (info .entry)) base from)
-        (now (far .entry)) (now (far .exit)) (now (queue .entry)) (now (queue .exit)) n r
+        TakesAll x (AtPoint (cornersIn regions (now (shapes .entry))) (now (heights .entry)) (location * regions) v)
+        (now (distance .entry)) (now (distance .exit)) (now (queue .entry)) (now (queue .exit)) n r
         ⌝ }
 {
+    let links = links_at(regions);
+    let heads = heads_at(regions);
     let mut end = n;
-    let mut next = wide(from);
+    let mut next = from_word(shapes[heads + v]);
     while 0 < next {
         let slot = next - 1;
-        let q = base + slot / 4;
-        end = take_closed(info, far, queue, x, q, end);
-        next = wide(link[slot]);
+        let q = location * regions + slot / SLOTS;
+        end = take_closed(heights, distance, queue, x, q, end);
+        next = from_word(shapes[links + slot]);
     }
     end
 }
 
-// The same for the states that have a corner at the point of a slot, unless the point is noted: they were taken in before.
+// The same for the point of a slot, unless it is noted: its states were taken in before.
 fn take_corner(
     regions: usize,
-    corner: &[u16],
-    head: &[u16],
-    link: &[u16],
-    info: &[u16],
+    shapes: &[Word],
+    heights: &[Word],
     noted: &mut [u8],
-    far: &mut [u16],
-    queue: &mut [u16],
-    x: u16,
+    distance: &mut [Word],
+    queue: &mut [Word],
+    x: Word,
     location: usize,
     slot: usize,
     n: usize,
 ) -> usize
     requires { ⌜
-        (x ≤ stateLimit) × (location * regions < length (now far)) × (slot < length (now corner))
-        × Corners (length (now far)) regions (now corner) (now head) (now link) (now info) (length (now noted))
-        × Notes regions (length (now head)) (now corner) (now info) (now noted) (now far) × Fits (now far) (now queue) n
+        (location * regions < length (now distance)) × (slot < slotCount * regions)
+        × Ready regions x (now shapes) (now heights) (now noted) (now distance) (now queue) n
         ⌝ }
     ensures { λ r. ⌜
-        TakesAll x (AtPoint (now (corner .entry)) (now (info .entry)) (location * regions) (getD (now (corner .entry)) slot 0))
-        (now (far .entry)) (now (far .exit)) (now (queue .entry)) (now (queue .exit)) n r
-        × Notes regions (length (now (head .entry))) (now (corner .entry)) (now (info .entry)) (now (noted .exit)) (now (far .exit))
+        TakesNoted regions x (AtPoint (cornersIn regions (now (shapes .entry))) (now (heights .entry)) (location * regions)
+        (getD (cornersIn regions (now (shapes .entry))) slot 0)) (now (shapes .entry)) (now (heights .entry)) (now (noted .exit))
+        (now (distance .entry)) (now (distance .exit)) (now (queue .entry)) (now (queue .exit)) n r
         ⌝ }
 {
-    let v = wide(corner[slot]);
-    let spot = location * head.len() + v;
+    let corners = corners_at(regions);
+    let v = from_word(shapes[corners + slot]);
+    let spot = location * POINTS + v;
     if noted[spot] == 0 {
         noted[spot] = 1;
-        return take_chain(link, info, head[v], location * regions, far, queue, x, n);
+        return take_point(regions, shapes, heights, distance, queue, x, location, v, n);
     }
     n
 }
 
-// The touch steps of region i of a location: those at its four corner slots.
+// The touch steps of region i of a location: those at its corner slots.
 fn take_corners(
     regions: usize,
-    corner: &[u16],
-    head: &[u16],
-    link: &[u16],
-    info: &[u16],
+    shapes: &[Word],
+    heights: &[Word],
     noted: &mut [u8],
-    far: &mut [u16],
-    queue: &mut [u16],
-    x: u16,
+    distance: &mut [Word],
+    queue: &mut [Word],
+    x: Word,
     location: usize,
     i: usize,
     n: usize,
 ) -> usize
     requires { ⌜
-        (x ≤ stateLimit) × (location * regions < length (now far)) × (i < regions)
-        × Corners (length (now far)) regions (now corner) (now head) (now link) (now info) (length (now noted))
-        × Notes regions (length (now head)) (now corner) (now info) (now noted) (now far) × Fits (now far) (now queue) n
+        (location * regions < length (now distance)) × (i < regions)
+        × Ready regions x (now shapes) (now heights) (now noted) (now distance) (now queue) n
         ⌝ }
     ensures { λ r. ⌜
-        TakesAll x (Touches (now (corner .entry)) (now (info .entry)) (location * regions) i 0)
-        (now (far .entry)) (now (far .exit)) (now (queue .entry)) (now (queue .exit)) n r
-        × Notes regions (length (now (head .entry))) (now (corner .entry)) (now (info .entry)) (now (noted .exit)) (now (far .exit))
+        TakesNoted regions x (Touches (cornersIn regions (now (shapes .entry))) (now (heights .entry)) (location * regions) i 0)
+        (now (shapes .entry)) (now (heights .entry)) (now (noted .exit))
+        (now (distance .entry)) (now (distance .exit)) (now (queue .entry)) (now (queue .exit)) n r
         ⌝ }
 {
     let mut end = n;
     let mut k = 0;
-    while k < 4 {
-        let slot = 4 * i + k;
+    while k < SLOTS {
+        let slot = SLOTS * i + k;
         end = take_corner(
             regions,
-            corner,
-            head,
-            link,
-            info,
+            shapes,
+            heights,
             noted,
-            far,
+            distance,
             queue,
             x,
             location,
@@ -255,45 +198,37 @@ fn take_corners(
 pub fn spread(
     regions: usize,
     first: &[u32],
-    targets: &[u16],
-    rows: &[u16],
-    faces: &[u16],
-    corner: &[u16],
-    head: &[u16],
-    link: &[u16],
-    info: &[u16],
-    far: &mut [u16],
-    queue: &mut [u16],
+    targets: &[Word],
+    shapes: &[Word],
+    heights: &[Word],
+    distance: &mut [Word],
+    queue: &mut [Word],
     noted: &mut [u8],
-    x: u16,
+    x: Word,
     p: usize,
     n: usize,
 ) -> usize
     requires { ⌜
-        (x ≤ stateLimit) × (p < length (now far))
-        × Shape (length (now far)) regions (now first) (now targets) (now rows) (now faces) (now corner) (now head) (now link)
-        (now info) (length (now noted))
-        × Notes regions (length (now head)) (now corner) (now info) (now noted) (now far) × Fits (now far) (now queue) n
+        (p < length (now distance)) × Rows (now first) (now targets) (length (now distance))
+        × Ready regions x (now shapes) (now heights) (now noted) (now distance) (now queue) n
         ⌝ }
     ensures { λ r. ⌜
-        TakesAll x (Leads regions (now (first .entry)) (now (targets .entry)) (now (rows .entry)) (now (faces .entry))
-        (now (corner .entry)) (now (info .entry)) p)
-        (now (far .entry)) (now (far .exit)) (now (queue .entry)) (now (queue .exit)) n r
-        × Notes regions (length (now (head .entry))) (now (corner .entry)) (now (info .entry)) (now (noted .exit)) (now (far .exit))
+        TakesNoted regions x
+        (Leads regions (now (first .entry)) (now (targets .entry)) (now (shapes .entry)) (now (heights .entry)) p)
+        (now (shapes .entry)) (now (heights .entry)) (now (noted .exit))
+        (now (distance .entry)) (now (distance .exit)) (now (queue .entry)) (now (queue .exit)) n r
         ⌝ }
 {
     let location = p / regions;
     let i = p % regions;
-    let n1 = take_flow(first, targets, far, queue, x, p, n);
-    let n2 = take_faces(regions, rows, faces, far, queue, x, location, i, n1);
+    let n1 = take_row(first, targets, distance, queue, x, p, n);
+    let n2 = take_faces(regions, shapes, distance, queue, x, location, i, n1);
     take_corners(
         regions,
-        corner,
-        head,
-        link,
-        info,
+        shapes,
+        heights,
         noted,
-        far,
+        distance,
         queue,
         x,
         location,

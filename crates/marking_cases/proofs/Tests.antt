@@ -3,7 +3,7 @@ use mathlib.Core.Path.{_≡_, refl, sym, _∙_}
 use mathlib.Core.Bool.{Bool, true, false, _&&_}
 use mathlib.Core.Logic.{_↔_, _⊎_, inl, inr}
 use mathlib.Core.List.{List, [], _∷_, List·Memᴰ, List·Memᴰ·cases-cons, List·Memᴰ·not-nil}
-use Prim.Native.Nat.{ℕ, zero, suc, _+_, _≤_, _<_}
+use Prim.Native.Nat.{ℕ, zero, suc, _+_, _*_, _≤_, _<_}
 use native.Mathlib.Omega.{arith}
 use lib.ListN.{length, getD}
 use lib.Dec.{eqb, leb, ltb}
@@ -13,22 +13,10 @@ use Rattle.theory.specs.Lists.{some}
 use Rattle.theory.specs.Adjacency.{Chain, end, slot, Chains}
 use Rattle.theory.proofs.Below.{and↔, all↔, test↔, eqb↔, leb↔, ltb↔}
 use Rattle.theory.proofs.Lists.{some-law}
-use Rattle.marking.specs.Tables.{Rows, Shape}
-
--- ---- rows
-
-abbrev pub rowsTest : List ℕ → List ℕ → ℕ → Bool
-rowsTest first targets n =
-    eqb (length first) (n + 1)
-    && (all n (λ p. leb (getD first p 0) (getD first (p + 1) 0))
-    && (leb (getD first n 0) (length targets) && all (getD first n 0) (λ i. ltb (getD targets i 0) n)))
-
-pub rows-test : (first targets : List ℕ) (n : ℕ) → rowsTest first targets n ≡ true → Rows first targets n
-rows-test first targets n e =
-    let (l, (a, (d, b))) = and↔ (eqb↔ (length first) (n + 1))
-    (and↔ (all↔ n (λ p. leb↔ (getD first p 0) (getD first (p + 1) 0)))
-    (and↔ (leb↔ (getD first n 0) (length targets)) (all↔ (getD first n 0) (λ i. ltb↔ (getD targets i 0) n)))) .0 e in
-    record { long = l; ascends = a; ends = d; below = b }
+use Rattle.limits.specs.Limits.{slotCount, pointCount}
+use Rattle.shapes.specs.Layout.{shapesEnd, rowsIn, facesIn, cornersIn, linksIn, headsIn}
+use Rattle.search.proofs.RowsTest.{rowsTest, rows-test}
+use Rattle.marking.specs.Tables.{RegionTables}
 
 -- ---- chains
 
@@ -111,25 +99,26 @@ module _ (corner head link : List ℕ) (t : chainsTest corner head link ≡ true
   pub chains-test : Chains corner head link
   chains-test = record { long = parts .0; chain = λ v b. (slots v b, chain v b, member v b) }
 
--- ---- the regions of one clock at ceiling 1, in two locations
+-- ---- the tables of three regions, in two locations
 
-pub one-clock : {first targets info : List ℕ} → Rows first targets 6 → length info ≡ 6
-    → Shape 6 3 first targets (0 ∷ 0 ∷ 2 ∷ 2 ∷ []) (0 ∷ 2 ∷ []) (0 ∷ 0 ∷ 0 ∷ 0 ∷ 0 ∷ 1 ∷ 1 ∷ 1 ∷ 1 ∷ 1 ∷ 1 ∷ 1 ∷ []) (5 ∷ 12 ∷ [])
-    (0 ∷ 1 ∷ 2 ∷ 3 ∷ 4 ∷ 0 ∷ 6 ∷ 7 ∷ 8 ∷ 9 ∷ 10 ∷ 11 ∷ []) info 4
-unfolding all
-one-clock H e = record {
-  some = omega arith;
-  states = omega arith;
-  flow = H;
-  face = rows-test (0 ∷ 0 ∷ 2 ∷ 2 ∷ []) (0 ∷ 2 ∷ []) 3 refl;
-  corners = record {
-    locations = 2;
-    states = refl;
-    spots = refl;
-    corner-long = refl;
-    corner-below = all↔ 12 (λ s. ltb↔ (getD (0 ∷ 0 ∷ 0 ∷ 0 ∷ 0 ∷ 1 ∷ 1 ∷ 1 ∷ 1 ∷ 1 ∷ 1 ∷ 1 ∷ []) s 0) 2) .0 refl;
-    chains =
-        chains-test (0 ∷ 0 ∷ 0 ∷ 0 ∷ 0 ∷ 1 ∷ 1 ∷ 1 ∷ 1 ∷ 1 ∷ 1 ∷ 1 ∷ []) (5 ∷ 12 ∷ []) (0 ∷ 1 ∷ 2 ∷ 3 ∷ 4 ∷ 0 ∷ 6 ∷ 7 ∷ 8 ∷ 9 ∷ 10 ∷ 11 ∷ []) refl;
-    info-long = e;
-  };
-}
+abbrev pub shapesTest : List ℕ → Bool
+shapesTest t =
+    eqb (length t) (shapesEnd 3)
+    && (rowsTest (rowsIn 3 t) (facesIn 3 t) 3
+    && (all (slotCount * 3) (λ s. ltb (getD (cornersIn 3 t) s 0) pointCount) && chainsTest (cornersIn 3 t) (headsIn 3 t) (linksIn 3 t)))
+
+pub shapes-test : (t : List ℕ) → shapesTest t ≡ true → (heights : List ℕ) → length heights ≡ 6 → RegionTables 6 3 t heights
+shapes-test t e heights l =
+    let (a, (b, (c, d))) = and↔ (eqb↔ (length t) (shapesEnd 3))
+    (and↔ (test↔ (rowsTest (rowsIn 3 t) (facesIn 3 t) 3))
+    (and↔ (all↔ (slotCount * 3) (λ s. ltb↔ (getD (cornersIn 3 t) s 0) pointCount)) (test↔ (chainsTest (cornersIn 3 t) (headsIn 3 t) (linksIn 3 t))))) .0 e in
+    record {
+      some = omega arith;
+      states = omega arith;
+      locations = 2;
+      whole = refl;
+      faces = record { regions = omega arith; long = a; face = rows-test (rowsIn 3 t) (facesIn 3 t) 3 b };
+      corner-below = c;
+      chains = chains-test (cornersIn 3 t) (headsIn 3 t) (linksIn 3 t) d;
+      heights-long = l;
+    }

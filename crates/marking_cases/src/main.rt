@@ -4,8 +4,17 @@
 
 ghost use mathlib.Core.Path.{_≡_};
 ghost use lib.ListN.{length};
-ghost use Rattle.marking.specs.Tables.{Rows};
+ghost use Rattle.search.specs.Rows.{Rows};
 use libc::STDOUT_FILENO;
+use limits::POINTS;
+use limits::Word;
+
+mod shapes_of_one_clock;
+
+use shapes_of_one_clock::ONE_CLOCK;
+use shapes_of_one_clock::REGIONS;
+
+const SPOTS: usize = 2 * POINTS;
 
 fn show(number: usize, end: u8) {
     io::print_decimal(STDOUT_FILENO, number as u64);
@@ -13,46 +22,37 @@ fn show(number: usize, end: u8) {
     io::write_all(STDOUT_FILENO, &after);
 }
 
-fn show_each(far: &[u16]) {
+fn show_each(distance: &[Word]) {
     let mut i = 0;
-    while i < far.len() {
-        show(far[i] as usize, b' ');
+    while i < distance.len() {
+        show(distance[i] as usize, b' ');
         i += 1;
     }
 }
 
-// Region 1 has the faces 0 and 2; the corner of region 0 is point 0, those of region 1 are points 0 and 1, that of region 2 is point 1.
-fn case(first: &[u32], targets: &[u16], info: &[u16])
-    requires { ⌜ Rows (now first) (now targets) 6 × (length (now info) ≡ 6) ⌝ }
+fn case(first: &[u32], targets: &[Word], heights: &[Word])
+    requires { ⌜ Rows (now first) (now targets) 6 × (length (now heights) ≡ 6) ⌝ }
 {
-    let rows = [0u16, 0, 2, 2];
-    let faces = [0u16, 2];
-    let corner = [0u16, 0, 0, 0, 0, 1, 1, 1, 1, 1, 1, 1];
-    let head = [5u16, 12];
-    let link = [0u16, 1, 2, 3, 4, 0, 6, 7, 8, 9, 10, 11];
+    let shapes = ONE_CLOCK;
     let kind = [0u8, 1];
-    let mut far = [7u16; 6];
-    let mut queue = [7u16; 6];
-    let mut noted = [7u8; 4];
+    let mut distance: [Word; 6] = [7; 6];
+    let mut queue: [Word; 6] = [7; 6];
+    let mut noted = [7u8; SPOTS];
     let rounds = marking::distances(
         0,
-        3,
+        REGIONS,
         first,
         targets,
-        &rows,
-        &faces,
-        &corner,
-        &head,
-        &link,
-        info,
-        &mut far,
+        &shapes,
+        heights,
+        &mut distance,
         &mut queue,
         &mut noted,
     );
-    show_each(&far);
+    show_each(&distance);
     show(rounds as usize, b' ');
-    show(marking::count_marked(&far), b' ');
-    show(marking::fewest(&far, &kind, 3), b'\n');
+    show(marking::count_marked(&distance), b' ');
+    show(marking::fewest(&distance, &kind, REGIONS), b'\n');
 }
 
 fn main() {

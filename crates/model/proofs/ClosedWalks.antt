@@ -11,7 +11,7 @@ use lib.Dec.{eqb}
 use borrow.Author.Tests.{eqb-true, eqb-false, eq-eqb}
 use Rattle.number.proofs.Laws.{cond-ind}
 use Rattle.model.specs.declared.Model.{Model}
-use Rattle.model.specs.Limits.{maxLocations}
+use Rattle.limits.specs.Limits.{maxLocations}
 use Rattle.model.specs.Each.{each}
 use Rattle.model.specs.Model.{Lawful, sourceOf, targetOf, keeps}
 use Rattle.model.specs.Cycle.{Walk, here, step, ClosedWalk, LeavesUnreset, markedAt, markEdge, roundOf, survivors, hasCycle, unresetAt, unreset}

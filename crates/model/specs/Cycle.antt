@@ -6,7 +6,7 @@ use mathlib.Core.Bool.{Bool, true, cond}
 use lib.ListN.{getD, set, replicate}
 use lib.Dec.{eqb}
 use Rattle.model.specs.declared.Model.{Model}
-use Rattle.model.specs.Limits.{maxLocations}
+use Rattle.limits.specs.Limits.{maxLocations}
 use Rattle.model.specs.Each.{each, someBelow}
 use Rattle.model.specs.Model.{sourceOf, targetOf, keeps}
 

@@ -6,7 +6,7 @@ use mathlib.Core.Bool.{Bool}
 use lib.ListN.{length, getD}
 use lib.Dec.{eqb}
 use Rattle.model.specs.declared.Model.{Model}
-use Rattle.model.specs.Limits.{maxClocks, maxCeiling, maxLocations, maxEdges}
+use Rattle.limits.specs.Limits.{maxClocks, maxCeiling, maxLocations, maxEdges}
 
 -- where a location or an edge has its entry for a clock
 abbrev pub slot : ℕ → ℕ → ℕ

@@ -2,12 +2,12 @@
 ghost use mathlib.Core.Path.{_≡_};
 ghost use mathlib.Core.Bool.{_||_};
 ghost use Prim.Native.Nat.{_<_};
-ghost use Rattle.model.specs.Limits.{maxClocks, maxLocations, maxEdges};
+ghost use Rattle.limits.specs.Limits.{maxClocks, maxLocations, maxEdges};
 ghost use Rattle.model.specs.Each.{someBelow};
 ghost use Rattle.model.specs.Model.{Lawful, keeps};
 ghost use Rattle.model.specs.Cycle.{markedAt, markEdge, roundOf, survivors, unresetAt, unreset};
-use crate::LOCATION_SLOTS;
 use crate::Model;
+use limits::MAX_LOCATIONS;
 
 // An edge does not reset the clock.
 fn keeps_clock(m: Model, x: u8, e: usize) -> bool
@@ -20,10 +20,10 @@ fn keeps_clock(m: Model, x: u8, e: usize) -> bool
 fn mark_edge(
     m: Model,
     x: u8,
-    a: [u8; LOCATION_SLOTS],
+    a: [u8; MAX_LOCATIONS],
     e: usize,
-    b: [u8; LOCATION_SLOTS],
-) -> [u8; LOCATION_SLOTS]
+    b: [u8; MAX_LOCATIONS],
+) -> [u8; MAX_LOCATIONS]
     requires { ⌜ Lawful m ⌝ }
     requires { ⌜ (x < maxClocks) × (e < maxEdges) ⌝ }
     ensures { λ r. ⌜ r ≡ markEdge m (keeps m x) a e b ⌝ }
@@ -42,13 +42,13 @@ fn mark_edge(
 }
 
 // The sources of the edges that keep the clock and lead to a mark.
-fn round(m: Model, x: u8, a: [u8; LOCATION_SLOTS]) -> [u8; LOCATION_SLOTS]
+fn round(m: Model, x: u8, a: [u8; MAX_LOCATIONS]) -> [u8; MAX_LOCATIONS]
     requires { ⌜ Lawful m ⌝ }
     requires { ⌜ x < maxClocks ⌝ }
     ensures { λ r. ⌜ r ≡ roundOf m (keeps m x) a ⌝ }
 {
     let count = m.edges as usize;
-    let mut b = [0; LOCATION_SLOTS];
+    let mut b = [0; MAX_LOCATIONS];
     for e in 0..count {
         let c = mark_edge(m, x, a, e, b);
         b = c;
@@ -56,13 +56,13 @@ fn round(m: Model, x: u8, a: [u8; LOCATION_SLOTS]) -> [u8; LOCATION_SLOTS]
     b
 }
 
-fn rounds(m: Model, x: u8) -> [u8; LOCATION_SLOTS]
+fn rounds(m: Model, x: u8) -> [u8; MAX_LOCATIONS]
     requires { ⌜ Lawful m ⌝ }
     requires { ⌜ x < maxClocks ⌝ }
     ensures { λ r. ⌜ r ≡ survivors m (keeps m x) ⌝ }
 {
     let count = m.locations as usize;
-    let mut a = [1; LOCATION_SLOTS];
+    let mut a = [1; MAX_LOCATIONS];
     for _ in 0..count {
         let c = round(m, x, a);
         a = c;
@@ -70,7 +70,7 @@ fn rounds(m: Model, x: u8) -> [u8; LOCATION_SLOTS]
     a
 }
 
-fn or_marked(a: [u8; LOCATION_SLOTS], i: usize, found: bool) -> bool
+fn or_marked(a: [u8; MAX_LOCATIONS], i: usize, found: bool) -> bool
     requires { ⌜ i < maxLocations ⌝ }
     ensures { λ r. ⌜ r ≡ (markedAt a i || found) ⌝ }
 {
@@ -80,11 +80,11 @@ fn or_marked(a: [u8; LOCATION_SLOTS], i: usize, found: bool) -> bool
     found
 }
 
-fn any_marked(a: [u8; LOCATION_SLOTS]) -> bool
+fn any_marked(a: [u8; MAX_LOCATIONS]) -> bool
     ensures { λ r. ⌜ r ≡ someBelow maxLocations (markedAt a) ⌝ }
 {
     let mut found = false;
-    for i in 0..LOCATION_SLOTS {
+    for i in 0..MAX_LOCATIONS {
         found = or_marked(a, i, found);
     }
     found

@@ -217,7 +217,7 @@ pub spells-bound : {g : List ℕ} {v : ℕ} → Spells g v → v < 2 ^ 21
 spells-bound =
     spells-ind (λ (g : List ℕ) (v : ℕ). v < 2 ^ 21) (λ a h. omega arith) (λ a b h k. omega arith) (λ a b c h k m. omega arith)
 
-spells-some : {g : List ℕ} {v : ℕ} → Spells g v → 1 ≤ length g
+pub spells-some : {g : List ℕ} {v : ℕ} → Spells g v → 1 ≤ length g
 spells-some (last h) = omega arith
 spells-some (more h s) = omega arith
 

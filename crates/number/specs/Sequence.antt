@@ -3,7 +3,11 @@ use mathlib.Core.List.{List, [], _∷_, _++_}
 use Prim.Native.Nat.{ℕ}
 use Rattle.number.specs.Number.{Spells}
 
--- Bytes that spell numbers one after the other, with nothing after. "Zero padding is allowed", so that numbers have many spellings.
-pub data SpellsAll : List ℕ → List ℕ → Type 0 where
-  none : SpellsAll [] []
-  more : {g bs vs : List ℕ} {v : ℕ} → Spells g v → SpellsAll bs vs → SpellsAll (g ++ bs) (v ∷ vs)
+-- Bytes that spell numbers one after the other, each as a relation says, with nothing after.
+pub data SpelledBy (R : List ℕ → ℕ → Type 0) : List ℕ → List ℕ → Type 0 where
+  none : SpelledBy R [] []
+  more : {g bs vs : List ℕ} {v : ℕ} → R g v → SpelledBy R bs vs → SpelledBy R (g ++ bs) (v ∷ vs)
+
+-- "Zero padding is allowed", so that numbers have many spellings.
+abbrev pub SpellsAll : List ℕ → List ℕ → Type 0
+SpellsAll = SpelledBy Spells

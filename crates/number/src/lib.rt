@@ -4,6 +4,8 @@ ghost use Prim.Native.Nat.{_+_, _<_, _≤_, _^_};
 ghost use lib.ListN.{length};
 ghost use lib.Seq.{sets};
 ghost use Rattle.number.specs.Number.{readNumber, numberRefusal, spell};
+use limits::refusal::ENDS_TOO_SOON;
+use limits::refusal::THIRD_TOP_BIT;
 
 // What reading a number finds: its value and the offset after it, or the refusal, 1 or 2.
 pub enum Number {
@@ -16,7 +18,7 @@ pub fn read(bytes: &[u8], at: usize) -> Number
     ensures { λ r. ⌜ r ≡ readNumber (now (bytes .entry)) at ⌝ }
 {
     if bytes.len() <= at {
-        return Number::Refused(1);
+        return Number::Refused(ENDS_TOO_SOON);
     }
     let first = bytes[at] as u32;
     let at2 = at + 1;
@@ -24,7 +26,7 @@ pub fn read(bytes: &[u8], at: usize) -> Number
         return Number::Value(first, at2);
     }
     if bytes.len() <= at2 {
-        return Number::Refused(1);
+        return Number::Refused(ENDS_TOO_SOON);
     }
     let second = bytes[at2] as u32;
     let at3 = at2 + 1;
@@ -32,13 +34,13 @@ pub fn read(bytes: &[u8], at: usize) -> Number
         return Number::Value(first % 128 + 128 * second, at3);
     }
     if bytes.len() <= at3 {
-        return Number::Refused(1);
+        return Number::Refused(ENDS_TOO_SOON);
     }
     let third = bytes[at3] as u32;
     if third < 128 {
         return Number::Value(first % 128 + 128 * (second % 128) + 16384 * third, at3 + 1);
     }
-    Number::Refused(2)
+    Number::Refused(THIRD_TOP_BIT)
 }
 
 // The refusal of a number, 0 where it has a value.

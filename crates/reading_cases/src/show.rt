@@ -1,6 +1,6 @@
 // A case on a line of standard output.
 ghost use Prim.Native.Nat.{_<_};
-ghost use Rattle.model.specs.Limits.{maxLocations, maxEdges};
+ghost use Rattle.limits.specs.Limits.{maxLocations, maxEdges};
 ghost use Rattle.model.specs.Model.{Lawful};
 use libc::STDOUT_FILENO;
 use model::Model;

@@ -1,4 +1,4 @@
--- Corners as numbers: the numbers by the thresholds 4..1 decide shared corners and faces.
+-- Corners as numbers: the numbers by the thresholds from the highest down decide shared corners and faces.
 use Prim.Native.Nat.{ℕ, zero, suc, _+_, _≤_, _<_}
 use native.Mathlib.Omega.{arith}
 use native.Mathlib.Decide.{decLe}
@@ -11,8 +11,9 @@ use Rattle.theory.specs.Region.{Clock, topRank, raise, corners, hasCorner, face
 use Rattle.theory.proofs.Below.{bool-ext, eqb↔}
 use Rattle.theory.proofs.Lists.{same-law}
 use Rattle.theory.proofs.Region.{raise-none}
+use Rattle.limits.specs.Limits.{maxClocks, maxCeiling, slotCount, pointBase}
 use Rattle.region.specs.View.{view, Small}
-use Rattle.region.specs.Corners.{baseSix, codeAt}
+use Rattle.region.specs.Corners.{pointCode, codeAt}
 use Rattle.region.specs.declared.Region.{Region}
 
 -- ---- thresholds above the top rank give one corner again and again
@@ -58,57 +59,57 @@ module _ {A B C : Type 0} (f : C → A) (h : C → B) (p : A → Bool) (q : B �
   every-alike [] = refl
   every-alike (x ∷ l) = rw (e x, every-alike l) refl
 
-module _ (a b c x y z : ℕ) (ha : a ≤ 5) (hb : b ≤ 5) (hc : c ≤ 5) (hx : x ≤ 5) (hy : y ≤ 5) (hz : z ≤ 5) where
-  code-same : eqb (baseSix 0 (a ∷ b ∷ c ∷ [])) (baseSix 0 (x ∷ y ∷ z ∷ [])) ≡ same (a ∷ b ∷ c ∷ []) (x ∷ y ∷ z ∷ [])
+module _ (a b c x y z : ℕ) (ha : a < pointBase) (hb : b < pointBase) (hc : c < pointBase) (hx : x < pointBase) (hy : y < pointBase) (hz : z < pointBase) where
+  code-same : eqb (pointCode 0 (a ∷ b ∷ c ∷ [])) (pointCode 0 (x ∷ y ∷ z ∷ [])) ≡ same (a ∷ b ∷ c ∷ []) (x ∷ y ∷ z ∷ [])
   code-same =
       let p = a ∷ b ∷ c ∷ [] in
       let q = x ∷ y ∷ z ∷ [] in
-      bool-ext (eqb (baseSix 0 p) (baseSix 0 q)) (same p q)
-      (λ e. let h = eqb↔ (baseSix 0 p) (baseSix 0 q) .0 e in
+      bool-ext (eqb (pointCode 0 p) (pointCode 0 q)) (same p q)
+      (λ e. let h = eqb↔ (pointCode 0 p) (pointCode 0 q) .0 e in
       let i : a ≡ x = omega arith in
       let j : b ≡ y = omega arith in
       let k : c ≡ z = omega arith in
       same-law p q .1 (cc))
-      (λ e. eqb↔ (baseSix 0 p) (baseSix 0 q) .1 (ap (baseSix 0) (same-law p q .0 e)))
+      (λ e. eqb↔ (pointCode 0 p) (pointCode 0 q) .1 (ap (pointCode 0) (same-law p q .0 e)))
 
-pub raised-le : (b : Bool) (w : ℕ) → w ≤ 4 → cond b (w + 1) w ≤ 5
+pub raised-le : (b : Bool) (w : ℕ) → w ≤ maxCeiling → cond b (w + 1) w < pointBase
 raised-le true w h = omega arith
 raised-le false w h = omega arith
 
-code-eq : (a b : Region) → Small a → Small b → (t u : ℕ) → eqb (codeAt a t) (codeAt b u) ≡ same (raise t (view 3 a)) (raise u (view 3 b))
+code-eq : (a b : Region) → Small a → Small b → (t u : ℕ) → eqb (codeAt a t) (codeAt b u) ≡ same (raise t (view maxClocks a)) (raise u (view maxClocks b))
 unfolding codeAt
 code-eq a b s r t u =
     code-same _ _ _ _ _ _
     (raised-le (leb t (a .r1)) (a .w1) (s .w1)) (raised-le (leb t (a .r2)) (a .w2) (s .w2)) (raised-le (leb t (a .r3)) (a .w3) (s .w3))
     (raised-le (leb u (b .r1)) (b .w1) (r .w1)) (raised-le (leb u (b .r2)) (b .w2) (r .w2)) (raised-le (leb u (b .r3)) (b .w3) (r .w3))
 
-top-small : (g : Region) → Small g → topRank (view 3 g) < 4
+top-small : (g : Region) → Small g → topRank (view maxClocks g) < slotCount
 top-small g s = omega (arith, s .r1, s .r2, s .r3)
 
 -- ---- the tests of the code
 
 abbrev pub codesOf : Region → List ℕ
-codesOf g = map (codeAt g) (down 4)
+codesOf g = map (codeAt g) (down slotCount)
 
-codes-has : (a b : Region) → Small a → Small b → (t : ℕ) → some (eqb (codeAt a t)) (codesOf b) ≡ hasCorner (view 3 b) (raise t (view 3 a))
+codes-has : (a b : Region) → Small a → Small b → (t : ℕ) → some (eqb (codeAt a t)) (codesOf b) ≡ hasCorner (view maxClocks b) (raise t (view maxClocks a))
 unfolding hasCorner
 codes-has a b s r t =
-    some-alike (codeAt b) (λ u. raise u (view 3 b)) (eqb (codeAt a t)) (same (raise t (view 3 a))) (code-eq a b s r t) (down 4)
-    ∙ some-corners (same (raise t (view 3 a))) (view 3 b) 4 (top-small b r)
+    some-alike (codeAt b) (λ u. raise u (view maxClocks b)) (eqb (codeAt a t)) (same (raise t (view maxClocks a))) (code-eq a b s r t) (down slotCount)
+    ∙ some-corners (same (raise t (view maxClocks a))) (view maxClocks b) slotCount (top-small b r)
 
-pub codes-share : (a b : Region) → Small a → Small b → some (λ p. some (eqb p) (codesOf b)) (codesOf a) ≡ shares (view 3 a) (view 3 b)
+pub codes-share : (a b : Region) → Small a → Small b → some (λ p. some (eqb p) (codesOf b)) (codesOf a) ≡ shares (view maxClocks a) (view maxClocks b)
 unfolding shares
 codes-share a b s r =
-    some-alike (codeAt a) (λ t. raise t (view 3 a)) (λ p. some (eqb p) (codesOf b)) (hasCorner (view 3 b)) (codes-has a b s r) (down 4)
-    ∙ some-corners (hasCorner (view 3 b)) (view 3 a) 4 (top-small a s)
+    some-alike (codeAt a) (λ t. raise t (view maxClocks a)) (λ p. some (eqb p) (codesOf b)) (hasCorner (view maxClocks b)) (codes-has a b s r) (down slotCount)
+    ∙ some-corners (hasCorner (view maxClocks b)) (view maxClocks a) slotCount (top-small a s)
 
 codes-inside : (a b : Region) → Small a → Small b
-    → every (λ p. some (eqb p) (codesOf b)) (codesOf a) ≡ every (hasCorner (view 3 b)) (corners (view 3 a))
+    → every (λ p. some (eqb p) (codesOf b)) (codesOf a) ≡ every (hasCorner (view maxClocks b)) (corners (view maxClocks a))
 codes-inside a b s r =
-    every-alike (codeAt a) (λ t. raise t (view 3 a)) (λ p. some (eqb p) (codesOf b)) (hasCorner (view 3 b)) (codes-has a b s r) (down 4)
-    ∙ every-corners (hasCorner (view 3 b)) (view 3 a) 4 (top-small a s)
+    every-alike (codeAt a) (λ t. raise t (view maxClocks a)) (λ p. some (eqb p) (codesOf b)) (hasCorner (view maxClocks b)) (codes-has a b s r) (down slotCount)
+    ∙ every-corners (hasCorner (view maxClocks b)) (view maxClocks a) slotCount (top-small a s)
 
 pub codes-face : (a b : Region) → Small a → Small b
-    → (every (λ p. some (eqb p) (codesOf a)) (codesOf b) && not (every (λ p. some (eqb p) (codesOf b)) (codesOf a))) ≡ face (view 3 a) (view 3 b)
+    → (every (λ p. some (eqb p) (codesOf a)) (codesOf b) && not (every (λ p. some (eqb p) (codesOf b)) (codesOf a))) ≡ face (view maxClocks a) (view maxClocks b)
 unfolding face
 codes-face a b s r = ap₂ (λ (x y : Bool). x && not y) (codes-inside b a r s) (codes-inside a b s r)

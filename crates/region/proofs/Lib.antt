@@ -1,9 +1,5 @@
 pub mod Padding
 pub mod Views
 pub mod Corners
-pub mod Lookup
 pub mod Packing
-pub mod Selection
-pub mod Entries
-pub mod Counts
 pub mod Known

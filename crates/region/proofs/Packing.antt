@@ -9,12 +9,11 @@ use lib.ListN.{length, replicate}
 use Rattle.theory.specs.Pointwise.{Each, none, more}
 use Rattle.theory.specs.Region.{Clock, wholes, lawful}
 use Rattle.theory.specs.Enumeration.{ranks, key, Before, here, later}
-use Rattle.theory.proofs.Sorted.{sorted-map}
-use Rattle.theory.proofs.Enumeration.{regions-law, regions-ascending, lawful-length, lawful-whole, lawful-rank, before-front, before-back}
-use Rattle.region.specs.Limits.{packedBound, Clocks, Ceiling}
+use Rattle.theory.proofs.Enumeration.{lawful-length, lawful-whole, lawful-rank, before-front, before-back}
+use Rattle.limits.specs.Limits.{maxClocks, maxCeiling}
+use Rattle.region.specs.Limits.{Clocks, Ceiling}
 use Rattle.region.specs.View.{view, nth, structOf, Small}
-use Rattle.region.specs.Packed.{decimal, pack, packClocks, unpack, packedRegions}
-use Rattle.region.specs.Lookup.{Increasing}
+use Rattle.region.specs.Packed.{packedBound, decimal, pack, packClocks, unpack}
 use Rattle.region.specs.declared.Region.{Region}
 use Rattle.region.proofs.Padding.{pad, zeros}
 use Rattle.region.proofs.Views.{view-struct, padded-struct, padded-view}
@@ -55,8 +54,8 @@ nth-le n m (x ∷ xs) f h (suc i) = nth-le n m xs (λ w k. f w (List·Memᴰ·ta
 
 pub lawful-small : (n M : ℕ) → Clocks n → Ceiling M → (xs : List Clock) → lawful n M xs ≡ true → Small (structOf xs)
 lawful-small n M k h xs t =
-    let b : (i : ℕ) → (nth xs i .whole ≤ 4) × (nth xs i .rank ≤ 3)
-    = nth-le 3 4 xs (λ w m. omega (arith, lawful-whole n M xs t w m, h .high)) (λ r m. omega (arith, lawful-rank n M xs t r m, k .high)) in
+    let b : (i : ℕ) → (nth xs i .whole ≤ maxCeiling) × (nth xs i .rank ≤ maxClocks)
+    = nth-le maxClocks maxCeiling xs (λ w m. omega (arith, lawful-whole n M xs t w m, h .high)) (λ r m. omega (arith, lawful-rank n M xs t r m, k .high)) in
     record { w1 = b 0 .0; w2 = b 1 .0; w3 = b 2 .0; r1 = b 0 .1; r2 = b 1 .1; r3 = b 2 .1 }
 
 -- ---- the order of numbers
@@ -70,15 +69,15 @@ decimal-before : {a b : List ℕ} → Before a b → Each (λ x y. (x ≤ 9) × 
 decimal-before (here h) (more d ds) k = decimal-less ds _ _ (omega arith)
 decimal-before (later h) (more d ds) k = decimal-before h ds _
 
-digits : (g h : Region) → Small g → Small h → Each (λ x y. (x ≤ 9) × (y ≤ 9)) (key (view 3 g)) (key (view 3 h))
+digits : (g h : Region) → Small g → Small h → Each (λ x y. (x ≤ 9) × (y ≤ 9)) (key (view maxClocks g)) (key (view maxClocks h))
 digits g h s t =
     more (nine (s .w1), nine (t .w1)) (more (nine (s .w2), nine (t .w2)) (more (nine (s .w3), nine (t .w3))
     (more (few (s .r1), few (t .r1)) (more (few (s .r2), few (t .r2)) (more (few (s .r3), few (t .r3)) none)))))
   where
-    nine : {x : ℕ} → x ≤ 4 → x ≤ 9
+    nine : {x : ℕ} → x ≤ maxCeiling → x ≤ 9
     nine l = omega arith
 
-    few : {x : ℕ} → x ≤ 3 → x ≤ 9
+    few : {x : ℕ} → x ≤ maxClocks → x ≤ 9
     few l = omega arith
 
 -- the order of keys is decided in the whole parts, or these are equal and it is decided in the ranks
@@ -111,27 +110,20 @@ pad-before k xs ys e h =
     (λ (q, r). rw q (before-back (zeros k (wholes ys)) (before-front r z z)))
     (before-split (wholes xs) (wholes ys) e h))
 
-struct-view : (n : ℕ) → Clocks n → (xs : List Clock) → length xs ≡ n → view 3 (structOf xs) ≡ pad (3 - n) xs
-struct-view n h xs e = padded-view n h (structOf xs) (padded-struct n h xs e) ∙ ap (pad (3 - n)) (view-struct n h xs e)
+struct-view : (n : ℕ) → Clocks n → (xs : List Clock) → length xs ≡ n → view maxClocks (structOf xs) ≡ pad (maxClocks - n) xs
+struct-view n h xs e = padded-view n h (structOf xs) (padded-struct n h xs e) ∙ ap (pad (maxClocks - n)) (view-struct n h xs e)
 
 length-wholes : (xs : List Clock) → length (wholes xs) ≡ length xs
 length-wholes [] = refl
 length-wholes (x ∷ xs) = ap suc (length-wholes xs)
 
 module _ (n M : ℕ) (k : Clocks n) (h : Ceiling M) where
-  pack-before : (xs ys : List Clock) → lawful n M xs ≡ true → lawful n M ys ≡ true → Before (key xs) (key ys) → packClocks xs < packClocks ys
+  pub pack-before : (xs ys : List Clock) → lawful n M xs ≡ true → lawful n M ys ≡ true → Before (key xs) (key ys) → packClocks xs < packClocks ys
   pack-before xs ys t u b =
       let e = lawful-length n M xs t in
       let f = lawful-length n M ys u in
-      let p = pad-before (3 - n) xs ys (length-wholes xs ∙ e ∙ sym f ∙ sym (length-wholes ys)) b in
+      let p = pad-before (maxClocks - n) xs ys (length-wholes xs ∙ e ∙ sym f ∙ sym (length-wholes ys)) b in
       decimal-before
-      (subst (λ a. Before (key a) (key (view 3 (structOf ys)))) (sym (struct-view n k xs e))
-      (subst (λ b. Before (key (pad (3 - n) xs)) (key b)) (sym (struct-view n k ys f)) p))
+      (subst (λ a. Before (key a) (key (view maxClocks (structOf ys)))) (sym (struct-view n k xs e))
+      (subst (λ b. Before (key (pad (maxClocks - n) xs)) (key b)) (sym (struct-view n k ys f)) p))
       (digits (structOf xs) (structOf ys) (lawful-small n M k h xs t) (lawful-small n M k h ys u)) 0
-
-  -- ascending regions have ascending numbers
-  pub packed-increasing : Increasing (packedRegions n M)
-  unfolding packedRegions
-  packed-increasing =
-      sorted-map packClocks (regions-ascending n M)
-      (λ xs ys m l b. pack-before xs ys (regions-law n M xs .0 m) (regions-law n M ys .0 l) b)

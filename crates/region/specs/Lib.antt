@@ -1,10 +1,8 @@
--- The limits of a plan, and the length of the table.
+-- The limits of a plan, as facts.
 pub mod Limits
 -- The struct of the code as a region of the theory, and back.
 pub mod View
--- Packed numbers, and the list of them.
+-- Packed numbers.
 pub mod Packed
 -- Corners as numbers.
 pub mod Corners
--- Where a number stands in a list.
-pub mod Lookup

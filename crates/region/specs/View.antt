@@ -7,7 +7,7 @@ use mathlib.Core.Option.{Option, some, none}
 use lib.Dec.{eqb}
 use lib.ListN.{take, getD, replicate}
 use Rattle.theory.specs.Region.{Clock, clock, fits, lawful, successor}
-use Rattle.region.specs.Limits.{mostClocks, mostCeiling}
+use Rattle.limits.specs.Limits.{maxClocks, maxCeiling}
 use Rattle.region.specs.declared.Region.{Region}
 use Rattle.region.specs.declared.Point.{Point}
 use Rattle.region.specs.declared.Later.{Later}
@@ -38,12 +38,12 @@ pub record Padded (n : ℕ) (g : Region) : Type 0 where
 
 -- whole parts up to the largest ceiling, ranks up to the largest number of clocks
 pub record Small (g : Region) : Type 0 where
-  pub w1 : g .w1 ≤ mostCeiling
-  pub w2 : g .w2 ≤ mostCeiling
-  pub w3 : g .w3 ≤ mostCeiling
-  pub r1 : g .r1 ≤ mostClocks
-  pub r2 : g .r2 ≤ mostClocks
-  pub r3 : g .r3 ≤ mostClocks
+  pub w1 : g .w1 ≤ maxCeiling
+  pub w2 : g .w2 ≤ maxCeiling
+  pub w3 : g .w3 ≤ maxCeiling
+  pub r1 : g .r1 ≤ maxClocks
+  pub r2 : g .r2 ≤ maxClocks
+  pub r3 : g .r3 ≤ maxClocks
 
 abbrev pub pointList : Point → List ℕ
 pointList p = p .x1 ∷ p .x2 ∷ p .x3 ∷ []

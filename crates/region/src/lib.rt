@@ -1,25 +1,23 @@
-// Regions of up to three clocks (01, "Regions"), by value: time successor, reset, corners, faces; the table of all of them, and lookup.
+// Regions of up to three clocks (01, "Regions"), by value: time successor, reset, corners, faces, and the packed number.
 ghost use mathlib.Core.Path.{_≡_};
 ghost use mathlib.Core.Bool.{cond, _&&_, _||_};
-ghost use mathlib.Core.List.{[], _∷_, _++_};
-ghost use Prim.Native.Nat.{_+_, _*_, _≤_, _<_, max};
+ghost use mathlib.Core.List.{[], _∷_, map};
+ghost use Prim.Native.Nat.{_+_, _≤_, _<_, max};
 ghost use lib.Dec.{eqb, leb};
-ghost use lib.ListN.{length, drop};
-ghost use Rattle.theory.specs.Lists.{every, some};
-ghost use Rattle.theory.specs.Region.{roundedUp, fits, attains, hasRank, topRank, raise, riseRanks, carry, successor, resetClocks, closeUp, face, shares, regions};
-ghost use Rattle.region.specs.Limits.{mostCeiling, tableLength, packedBound, Clocks, Ceiling};
+ghost use Rattle.theory.specs.Lists.{every, some, down};
+ghost use Rattle.theory.specs.Region.{roundedUp, fits, attains, hasRank, topRank, raise, riseRanks, carry, successor, resetClocks, closeUp, face, shares};
+ghost use Rattle.limits.specs.Limits.{maxClocks, maxCeiling, slotCount};
+ghost use Rattle.region.specs.Limits.{Clocks};
 ghost use Rattle.region.specs.View.{view, structOf, Small, timeOf, laterOf, maskBits, pointList};
 ghost use Rattle.region.specs.Corners.{codes, codeAt};
-ghost use Rattle.region.specs.Packed.{pack, unpack, packedRegions, chosen};
-ghost use Rattle.region.specs.Lookup.{foundIn, Increasing, Place};
+ghost use Rattle.region.specs.Packed.{packedBound, pack, unpack};
+use limits::Word;
 
-pub mod table;
+// Packed numbers have six digits.
+pub const PACKED_BOUND: u32 = 1000000;
 
-use table::LENGTH;
-use table::entries;
-
-// "ceiling M, 1..4"
-pub const CEILING: usize = 4;
+// Coordinates of a corner are the digits of its number in this base.
+const BASE: Word = limits::POINT_BASE as Word;
 
 // A whole part and a rank for each clock; clocks past the model's number are 0.
 pub struct Region {
@@ -37,12 +35,6 @@ pub enum Later {
     Past,
 }
 
-// The index of a region.
-pub enum Found {
-    At(usize),
-    Nothing,
-}
-
 // A whole point.
 pub struct Point {
     pub x1: u8,
@@ -52,10 +44,10 @@ pub struct Point {
 
 // The corners of a region as numbers, by the thresholds 4, 3, 2, 1; some more than once.
 pub struct Codes {
-    pub c4: u8,
-    pub c3: u8,
-    pub c2: u8,
-    pub c1: u8,
+    pub c4: Word,
+    pub c3: Word,
+    pub c2: Word,
+    pub c1: Word,
 }
 
 fn larger(a: u8, b: u8) -> u8
@@ -86,9 +78,9 @@ fn limited(w: u8, r: u8, limit: u8) -> bool
 
 // The whole part of a clock, raised by one at rank t or more.
 fn raised(t: u8, w: u8, r: u8) -> u8
-    requires { ⌜ w ≤ mostCeiling ⌝ }
+    requires { ⌜ w ≤ maxCeiling ⌝ }
     ensures { λ x. ⌜ x ≡ cond (leb t r) (w + 1) w ⌝ }
-    ensures { λ x. ⌜ x ≤ mostCeiling + 1 ⌝ }
+    ensures { λ x. ⌜ x ≤ maxCeiling + 1 ⌝ }
 {
     if t <= r { w + 1 } else { w }
 }
@@ -101,7 +93,7 @@ fn count_up_to(p: bool, q: bool, s: bool, x: u8) -> u8
 }
 
 impl Codes {
-    fn has(self, p: u8) -> bool
+    fn has(self, p: Word) -> bool
         ensures { λ r. ⌜ r ≡ some (eqb p) (codes self) ⌝ }
     {
         (p == self.c4) | ((p == self.c3) | ((p == self.c2) | (p == self.c1)))
@@ -149,14 +141,14 @@ impl Region {
     }
 
     fn has_rank(self, t: u8) -> bool
-        ensures { λ b. ⌜ b ≡ hasRank (view 3 self) t ⌝ }
+        ensures { λ b. ⌜ b ≡ hasRank (view maxClocks self) t ⌝ }
     {
         (self.r1 == t) | ((self.r2 == t) | (self.r3 == t))
     }
 
     // The largest rank.
     pub fn top_rank(self) -> u8
-        ensures { λ t. ⌜ t ≡ topRank (view 3 self) ⌝ }
+        ensures { λ t. ⌜ t ≡ topRank (view maxClocks self) ⌝ }
     {
         larger(self.r1, larger(self.r2, self.r3))
     }
@@ -164,7 +156,7 @@ impl Region {
     // All ranks rise.
     fn risen(self) -> Region
         requires { ⌜ Small self ⌝ }
-        ensures { λ r. ⌜ r ≡ structOf (riseRanks (view 3 self)) ⌝ }
+        ensures { λ r. ⌜ r ≡ structOf (riseRanks (view maxClocks self)) ⌝ }
     {
         Region {
             w1: self.w1,
@@ -179,7 +171,7 @@ impl Region {
     // The clocks of rank t go to the next whole number.
     fn carried(self, t: u8) -> Region
         requires { ⌜ Small self ⌝ }
-        ensures { λ r. ⌜ r ≡ structOf (carry t (view 3 self)) ⌝ }
+        ensures { λ r. ⌜ r ≡ structOf (carry t (view maxClocks self)) ⌝ }
     {
         Region {
             w1: choose(self.r1 == t, self.w1 + 1, self.w1),
@@ -218,7 +210,7 @@ impl Region {
 
     // Each clock is within its limit from above.
     pub fn fits(self, l1: u8, l2: u8, l3: u8) -> bool
-        ensures { λ b. ⌜ b ≡ fits (view 3 self) (l1 ∷ l2 ∷ l3 ∷ []) ⌝ }
+        ensures { λ b. ⌜ b ≡ fits (view maxClocks self) (l1 ∷ l2 ∷ l3 ∷ []) ⌝ }
     {
         limited(self.w1, self.r1, l1)
             & (limited(self.w2, self.r2, l2) & limited(self.w3, self.r3, l3))
@@ -226,7 +218,7 @@ impl Region {
 
     // Each clock is within its limit from below.
     pub fn attains(self, l1: u8, l2: u8, l3: u8) -> bool
-        ensures { λ b. ⌜ b ≡ attains (view 3 self) (l1 ∷ l2 ∷ l3 ∷ []) ⌝ }
+        ensures { λ b. ⌜ b ≡ attains (view maxClocks self) (l1 ∷ l2 ∷ l3 ∷ []) ⌝ }
     {
         (l1 <= self.w1) & ((l2 <= self.w2) & (l3 <= self.w3))
     }
@@ -234,7 +226,7 @@ impl Region {
     // The ranks closed up.
     pub fn close_up(self) -> Region
         requires { ⌜ Small self ⌝ }
-        ensures { λ r. ⌜ r ≡ structOf (closeUp (view 3 self)) ⌝ }
+        ensures { λ r. ⌜ r ≡ structOf (closeUp (view maxClocks self)) ⌝ }
     {
         let p = self.has_rank(1);
         let q = self.has_rank(2);
@@ -252,7 +244,7 @@ impl Region {
     // The clocks of the mask are 0.
     fn cleared(self, mask: u8) -> Region
         requires { ⌜ Small self ⌝ }
-        ensures { λ r. ⌜ r ≡ structOf (resetClocks (maskBits 3 mask) (view 3 self)) ⌝ }
+        ensures { λ r. ⌜ r ≡ structOf (resetClocks (maskBits maxClocks mask) (view maxClocks self)) ⌝ }
         ensures { λ r. ⌜ Small r ⌝ }
     {
         let a = mask % 2 == 1;
@@ -271,7 +263,7 @@ impl Region {
     // The clocks of the mask are reset, and the remaining ranks close up.
     pub fn reset(self, mask: u8) -> Region
         requires { ⌜ Small self ⌝ }
-        ensures { λ r. ⌜ r ≡ structOf (closeUp (resetClocks (maskBits 3 mask) (view 3 self))) ⌝ }
+        ensures { λ r. ⌜ r ≡ structOf (closeUp (resetClocks (maskBits maxClocks mask) (view maxClocks self))) ⌝ }
     {
         self.cleared(mask).close_up()
     }
@@ -279,7 +271,7 @@ impl Region {
     // The whole parts, raised by one at the clocks of rank t or more.
     pub fn corner(self, t: u8) -> Point
         requires { ⌜ Small self ⌝ }
-        ensures { λ p. ⌜ pointList p ≡ raise t (view 3 self) ⌝ }
+        ensures { λ p. ⌜ pointList p ≡ raise t (view maxClocks self) ⌝ }
     {
         Point {
             x1: raised(t, self.w1, self.r1),
@@ -288,17 +280,19 @@ impl Region {
         }
     }
 
-    pub fn code(self, t: u8) -> u8
+    pub fn code(self, t: u8) -> Word
         requires { ⌜ Small self ⌝ }
         ensures { λ c. ⌜ c ≡ codeAt self t ⌝ }
     {
-        (raised(t, self.w1, self.r1) * 6 + raised(t, self.w2, self.r2)) * 6
-            + raised(t, self.w3, self.r3)
+        let x = raised(t, self.w1, self.r1) as Word;
+        let y = raised(t, self.w2, self.r2) as Word;
+        let z = raised(t, self.w3, self.r3) as Word;
+        (x * BASE + y) * BASE + z
     }
 
     fn codes(self) -> Codes
         requires { ⌜ Small self ⌝ }
-        ensures { λ c. ⌜ codes c ≡ codeAt self 4 ∷ codeAt self 3 ∷ codeAt self 2 ∷ codeAt self 1 ∷ [] ⌝ }
+        ensures { λ c. ⌜ codes c ≡ map (codeAt self) (down slotCount) ⌝ }
     {
         Codes {
             c4: self.code(4),
@@ -311,7 +305,7 @@ impl Region {
     // Some corner of self is one of b's.
     pub fn shares_corner(self, b: Region) -> bool
         requires { ⌜ Small self × Small b ⌝ }
-        ensures { λ r. ⌜ r ≡ shares (view 3 self) (view 3 b) ⌝ }
+        ensures { λ r. ⌜ r ≡ shares (view maxClocks self) (view maxClocks b) ⌝ }
     {
         self.codes().meets(b.codes())
     }
@@ -319,7 +313,7 @@ impl Region {
     // The corners of b are some, not all, of self's.
     pub fn has_face(self, b: Region) -> bool
         requires { ⌜ Small self × Small b ⌝ }
-        ensures { λ r. ⌜ r ≡ face (view 3 self) (view 3 b) ⌝ }
+        ensures { λ r. ⌜ r ≡ face (view maxClocks self) (view maxClocks b) ⌝ }
     {
         let mine = self.codes();
         let other = b.codes();
@@ -350,80 +344,4 @@ impl Region {
             r3: (p % 10) as u8,
         }
     }
-}
-
-// Whether an entry of the table is a region of n clocks at the ceiling: its further clocks are 0.
-fn selected(n: u8, ceiling: u8, p: u32) -> bool
-    requires { ⌜ p < packedBound ⌝ }
-    ensures { λ b. ⌜ b ≡ chosen n ceiling p ⌝ }
-{
-    Region::unpack(p).fits(
-        ceiling,
-        choose(2 <= n, ceiling, 0),
-        choose(3 <= n, ceiling, 0),
-    )
-}
-
-// The regions of n clocks at the ceiling, packed and in order, at the front of out; how many.
-pub fn select(n: u8, ceiling: u8, out: &mut [u32]) -> usize
-    requires { ⌜ Clocks n × Ceiling ceiling × (tableLength ≤ length (now out)) ⌝ }
-    ensures { λ k. ⌜ k ≡ length (regions n ceiling) ⌝ }
-    ensures { λ k. ⌜ now (out .exit) ≡ packedRegions n ceiling ++ drop k (now (out .entry)) ⌝ }
-    ensures { λ k. ⌜ k ≤ tableLength ⌝ }
-{
-    let all = entries();
-    let mut i = 0;
-    let mut k = 0;
-    while i < LENGTH {
-        let p = all[i];
-        i += 1;
-        if selected(n, ceiling, p) {
-            out[k] = p;
-            k += 1;
-        }
-    }
-    k
-}
-
-// The first index of an ascending slice whose number is at least p, or the length.
-fn place(regions: &[u32], p: u32) -> usize
-    requires { ⌜ Increasing (now regions) ⌝ }
-    ensures { λ r. ⌜ Place (now (regions .entry)) p r ⌝ }
-{
-    let mut lo = 0;
-    let mut hi = regions.len();
-    while lo < hi {
-        let mid = lo + (hi - lo) / 2;
-        if regions[mid] < p {
-            lo = mid + 1;
-        } else {
-            hi = mid;
-        }
-    }
-    lo
-}
-
-// The index of p in an ascending slice.
-pub fn find(regions: &[u32], p: u32) -> Found
-    requires { ⌜ Increasing (now regions) ⌝ }
-    ensures { λ r. ⌜ r ≡ foundIn (now (regions .entry)) p ⌝ }
-{
-    let i = place(regions, p);
-    if i < regions.len() {
-        if regions[i] == p {
-            return Found::At(i);
-        }
-    }
-    Found::Nothing
-}
-
-const COUNTS: [u16; 12] = [3, 5, 7, 9, 11, 33, 67, 113, 51, 293, 883, 1977];
-
-// How many regions n clocks have at the ceiling.
-pub fn count(n: u8, ceiling: u8) -> u16
-    requires { ⌜ Clocks n × Ceiling ceiling ⌝ }
-    ensures { λ r. ⌜ r ≡ length (regions n ceiling) ⌝ }
-{
-    let i = (n as usize - 1) * CEILING + (ceiling as usize - 1);
-    COUNTS[i]
 }

@@ -5,12 +5,12 @@ ghost use Prim.Native.Nat.{_≤_, _<_};
 ghost use lib.ListN.{length};
 ghost use Rattle.region.specs.Limits.{Clocks, Ceiling};
 ghost use Rattle.region.specs.View.{Known, Small};
-ghost use Rattle.region.specs.Packed.{packedRegions};
+ghost use Rattle.region_table.specs.Table.{packedRegions};
 use libc::STDOUT_FILENO;
-use region::Found;
+use limits::MAX_REGIONS;
 use region::Later;
 use region::Region;
-use region::table::LENGTH;
+use region_table::Found;
 
 const MODULUS: u64 = 1000003;
 
@@ -30,7 +30,7 @@ fn at(regions: &[u32], n: u8, ceiling: u8, i: usize) -> Region
 fn index_of(regions: &[u32], n: u8, ceiling: u8, g: Region) -> u64
     requires { ⌜ Clocks n × Ceiling ceiling × (now regions ≡ packedRegions n ceiling) × Known n ceiling g ⌝ }
 {
-    let Found::At(i) = region::find(regions, g.pack()) else {
+    let Found::At(i) = region_table::find(regions, g.pack()) else {
         return 0;
     };
     i as u64
@@ -189,7 +189,7 @@ fn print_all(regions: &[u32], n: u8, ceiling: u8)
 {
     print(wide(n), b" ");
     print(wide(ceiling), b" ");
-    print(region::count(n, ceiling) as u64, b" ");
+    print(region_table::count(n, ceiling) as u64, b" ");
     print(successors(regions, n, ceiling), b" ");
     print(corners(regions, n, ceiling), b" ");
     print(faces(regions, n, ceiling), b" ");
@@ -199,8 +199,8 @@ fn print_all(regions: &[u32], n: u8, ceiling: u8)
 fn line(n: u8, ceiling: u8)
     requires { ⌜ Clocks n × Ceiling ceiling ⌝ }
 {
-    let mut table = [0u32; LENGTH];
-    let count = region::select(n, ceiling, &mut table);
+    let mut table = [0u32; MAX_REGIONS];
+    let count = region_table::select(n, ceiling, &mut table);
     print_all(&table[..count], n, ceiling);
 }
 

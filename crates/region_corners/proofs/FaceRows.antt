@@ -8,24 +8,27 @@ use mathlib.Core.Bool.{true}
 use mathlib.Core.Logic.{_↔_}
 use mathlib.Core.List.{List, List·Memᴰ}
 use lib.Dec.{ltb}
-use lib.ListN.{length, getD, set, length-set}
-use lib.Seq.{getD-set-same, getD-set-other}
+use lib.ListN.{length, getD, set, take, length-set}
+use lib.Seq.{getD-set-same, getD-set-other, length-take-le, take-set-lt}
 use Rattle.theory.specs.Region.{regions, face}
 use Rattle.theory.specs.Adjacency.{Adjacent, Holds}
 use Rattle.theory.proofs.Below.{and-intro, and-left, and-right, ltb↔}
 use Rattle.theory.proofs.Sorted.{at-in, in-at}
 use Rattle.theory.proofs.Enumeration.{index-at}
+use Rattle.shapes.specs.Layout.{facesAt, cornersAt, shapesEnd, part, rowsIn, facesIn}
+use Rattle.shapes.proofs.Parts.{part-long, part-set-before, put, put-long, put-before, put-part}
 use Rattle.region.specs.Limits.{Clocks, Ceiling}
 use Rattle.region.specs.View.{view, structOf}
 use Rattle.region.specs.declared.Region.{Region}
 use Rattle.region.proofs.Known.{known-small}
-use Rattle.region_steps.specs.Codes.{codeOf, rankCodeCount}
+use Rattle.limits.specs.Limits.{maxWord, rankCodeCount, maxFaces}
+use Rattle.region_steps.specs.Codes.{codeOf}
 use Rattle.region_steps.specs.Tables.{Indexed}
 use Rattle.region_steps.proofs.Codes.{code-below}
-use Rattle.region_corners.specs.Limits.{mostFaces}
 use Rattle.region_corners.specs.Corners.{regionAt}
-use Rattle.region_corners.specs.Faces.{faceOf, wholeCode, rankCode, facesAt, LookedUp}
-use Rattle.region_corners.proofs.Numbers.{At, at-struct, at-small, regions-few}
+use Rattle.region_corners.specs.Faces.{faceOf, wholeCode, rankCode, faceCodes, LookedUp}
+use Rattle.region_table.proofs.Counts.{regions-few}
+use Rattle.region_corners.proofs.Numbers.{At, at-struct, at-small}
 use Rattle.region_corners.proofs.FaceCodes.{code-face, face-code}
 use Rattle.region_corners.proofs.Rows.{row-few}
 
@@ -44,7 +47,7 @@ face-of n M i j = (
 
 module _ {n M i : ℕ} {index : List ℕ} {g : Region} (k : Clocks n) (h : Ceiling M) (I : Indexed n M index) (A : At n M i g) where
   -- what the index holds at a code of the row, moved, is the number of a face
-  row-face : (x : ℕ) → List·Memᴰ x (facesAt (rankCode g))
+  row-face : (x : ℕ) → List·Memᴰ x (faceCodes (rankCode g))
       → (j : ℕ) × (faceOf n M i j ≡ true) × (getD index (wholeCode g + x) 0 ≡ j) × (wholeCode g + x < length index)
   row-face x m =
       let (q, u, f, e) = code-face n M k h g (A .known) x m in
@@ -57,7 +60,7 @@ module _ {n M i : ℕ} {index : List ℕ} {g : Region} (k : Clocks n) (h : Ceili
       )
 
   -- and so is found the number of each face
-  face-row : (j : ℕ) → faceOf n M i j ≡ true → (x : ℕ) × List·Memᴰ x (facesAt (rankCode g)) × (getD index (wholeCode g + x) 0 ≡ j)
+  face-row : (j : ℕ) → faceOf n M i j ≡ true → (x : ℕ) × List·Memᴰ x (faceCodes (rankCode g)) × (getD index (wholeCode g + x) 0 ≡ j)
   face-row j e =
       let (_, b, f) = face-of n M i j .0 e in
       let B = at-struct k h j b in
@@ -74,16 +77,16 @@ adjacent-kept a b f A =
 -- the rows of the regions below i stand before place `at`
 pub record Laid (n M : ℕ) (rows faces : List ℕ) (i at : ℕ) : Type 0 where
   pub long : length rows ≡ suc (length (regions n M))
-  pub room : mostFaces * length (regions n M) ≤ length faces
+  pub room : maxFaces * length (regions n M) ≤ length faces
   pub within : i ≤ length (regions n M)
-  pub few : at ≤ mostFaces * i
+  pub few : at ≤ maxFaces * i
   pub here : getD rows i 0 ≡ at
   pub upto : (p : ℕ) → p ≤ i → getD rows p 0 ≤ at
   pub ascends : (p : ℕ) → p < i → getD rows p 0 ≤ getD rows (suc p) 0
   pub below : (y : ℕ) → y < at → getD faces y 0 < length (regions n M)
   pub edges : (p q : ℕ) → p < i → Adjacent rows faces p q ↔ (faceOf n M p q ≡ true)
 
-pub laid-start : {n M : ℕ} (rows : List ℕ) {faces : List ℕ} → length rows ≡ length (regions n M) + 1 → mostFaces * length (regions n M) ≤ length faces
+pub laid-start : {n M : ℕ} (rows : List ℕ) {faces : List ℕ} → length rows ≡ length (regions n M) + 1 → maxFaces * length (regions n M) ≤ length faces
     → Laid n M (set rows 0 0) faces 0 0
 laid-start rows e r =
     let z : getD (set rows 0 0) 0 0 ≡ 0 = getD-set-same rows 0 0 0 (omega arith) in
@@ -104,20 +107,20 @@ module _ {n M i at : ℕ} {index rows faces : List ℕ} (k : Clocks n) (h : Ceil
     code-few : rankCode g < rankCodeCount
     code-few = let s = at-small k h A in omega (arith, s .r1, s .r2, s .r3)
 
-    pub laid-room : at + length (facesAt (rankCode g)) ≤ length faces
+    pub laid-room : at + length (faceCodes (rankCode g)) ≤ length faces
     laid-room = omega (arith, row-few (rankCode g) code-few, L .room, L .few, A .below)
 
-    pub laid-legal : (y : ℕ) → y < length (facesAt (rankCode g)) → wholeCode g + getD (facesAt (rankCode g)) y 0 < length index
-    laid-legal y b = row-face k h I A (getD (facesAt (rankCode g)) y 0) (at-in 0 (facesAt (rankCode g)) y b) .3
+    pub laid-legal : (y : ℕ) → y < length (faceCodes (rankCode g)) → wholeCode g + getD (faceCodes (rankCode g)) y 0 < length index
+    laid-legal y b = row-face k h I A (getD (faceCodes (rankCode g)) y 0) (at-in 0 (faceCodes (rankCode g)) y b) .3
 
-    module _ {at′ : ℕ} {faces′ : List ℕ} (a : at′ ≡ at + length (facesAt (rankCode g)))
-        (K : LookedUp index (facesAt (rankCode g)) (wholeCode g) at (length (facesAt (rankCode g))) faces faces′) where
-      laid-few : at′ ≤ mostFaces * (i + 1)
+    module _ {at′ : ℕ} {faces′ : List ℕ} (a : at′ ≡ at + length (faceCodes (rankCode g)))
+        (K : LookedUp index (faceCodes (rankCode g)) (wholeCode g) at (length (faceCodes (rankCode g))) faces faces′) where
+      laid-few : at′ ≤ maxFaces * (i + 1)
       laid-few = omega (arith, row-few (rankCode g) code-few, L .few)
 
-      -- the next start fits 16 bits
-      pub laid-small : at′ < 65536
-      laid-small = omega (arith, laid-few, A .below, regions-few k h)
+      -- a `Word` holds the next start
+      pub laid-small : at′ ≤ maxWord
+      laid-small = omega (arith, laid-few, A .below, regions-few n M k h)
 
       rows′ : List ℕ
       rows′ = set rows (i + 1) at′
@@ -125,13 +128,13 @@ module _ {n M i at : ℕ} {index rows faces : List ℕ} (k : Clocks n) (h : Ceil
       -- a number of the new row
       new : (y : ℕ) → at ≤ y → y < at′ → (j : ℕ) × (faceOf n M i j ≡ true) × (getD faces′ y 0 ≡ j)
       new y b c =
-          let d : y - at < length (facesAt (rankCode g)) = omega arith in
+          let d : y - at < length (faceCodes (rankCode g)) = omega arith in
           by (y - at) (omega arith) d
-          (row-face k h I A (getD (facesAt (rankCode g)) (y - at) 0) (at-in 0 (facesAt (rankCode g)) (y - at) d))
+          (row-face k h I A (getD (faceCodes (rankCode g)) (y - at) 0) (at-in 0 (faceCodes (rankCode g)) (y - at) d))
         where
-          by : (z : ℕ) → at + z ≡ y → z < length (facesAt (rankCode g))
-              → (j : ℕ) × (faceOf n M i j ≡ true) × (getD index (wholeCode g + getD (facesAt (rankCode g)) z 0) 0 ≡ j)
-              × (wholeCode g + getD (facesAt (rankCode g)) z 0 < length index)
+          by : (z : ℕ) → at + z ≡ y → z < length (faceCodes (rankCode g))
+              → (j : ℕ) × (faceOf n M i j ≡ true) × (getD index (wholeCode g + getD (faceCodes (rankCode g)) z 0) 0 ≡ j)
+              × (wholeCode g + getD (faceCodes (rankCode g)) z 0 < length index)
               → (j : ℕ) × (faceOf n M i j ≡ true) × (getD faces′ y 0 ≡ j)
           by z e d (j, f, r, _) = (j, f, ap (λ (y : ℕ). getD faces′ y 0) (sym e) ∙ K .is z d ∙ r)
 
@@ -212,3 +215,39 @@ module _ {n M i at : ℕ} {index rows faces : List ℕ} (k : Clocks n) (h : Ceil
     below = λ y b. L .below y (omega (arith, rw e at (L .here)));
     edges = rw e at (L .edges);
   }
+
+-- ---- rows before place k and faces from there up to place e, in the list of all tables
+
+pub record Laying (n M k e : ℕ) (t : List ℕ) (i at : ℕ) : Type 0 where
+  pub long : length t ≡ shapesEnd (length (regions n M))
+  pub rows : k ≡ facesAt (length (regions n M))
+  pub faces : e ≡ cornersAt (length (regions n M))
+  pub laid : Laid n M (take k t) (part k e t) i at
+
+pub laying-start : {n M k e : ℕ} (t : List ℕ) → length t ≡ shapesEnd (length (regions n M)) → k ≡ facesAt (length (regions n M))
+    → e ≡ cornersAt (length (regions n M)) → Laying n M k e (set t 0 0) 0 0
+laying-start {n} {M} {k} {e} t l a b =
+    let r = length (regions n M) in
+    let u = set t 0 0 in
+    let z : length u ≡ length t = length-set t 0 0 in
+    let f : length (take k t) ≡ r + 1 = length-take-le k t (omega arith) ∙ omega arith in
+    let g : length (part k e u) ≡ e - k = part-long k e u (omega arith) in
+    record { long = z ∙ l; rows = a; faces = b; laid = rw (take-set-lt k t 0 0 (omega arith)) (laid-start (take k t) f (omega arith)) }
+
+pub laying-next : {n M k e i at at′ : ℕ} {t : List ℕ} (y : List ℕ) → Laying n M k e t i at → i < length (regions n M)
+    → length y ≡ length (part k e t) → Laid n M (set (take k t) (i + 1) at′) y (i + 1) at′
+    → Laying n M k e (set (put k e t y) (i + 1) at′) (i + 1) at′
+laying-next {k = k} {e} {i} {at′ = at′} {t} y L h l D =
+    let u = put k e t y in
+    let w = set u (i + 1) at′ in
+    let a : k ≤ e = omega (arith, L .rows, L .faces) in
+    let b : e ≤ length t = omega (arith, L .long, L .faces) in
+    let c : i + 1 < k = omega (arith, L .rows) in
+    let f : take k w ≡ set (take k t) (i + 1) at′
+    = take-set-lt k u (i + 1) at′ c ∙ ap (λ (m : List ℕ). set m (i + 1) at′) (put-before k e t y a b l) in
+    let g : part k e w ≡ y = part-set-before k e u (i + 1) at′ c ∙ put-part k e t y a b l in
+    record { long = length-set u (i + 1) at′ ∙ put-long k e t y a b l ∙ L .long; rows = L .rows; faces = L .faces; laid = rw (f, g) D }
+
+pub laying-end : {n M k e i at : ℕ} {index t : List ℕ} → Clocks n → Ceiling M → Indexed n M index → Laying n M k e t i at → length (regions n M) ≤ i
+    → Holds (rowsIn (length (regions n M)) t) (facesIn (length (regions n M)) t) (length (regions n M)) (faceOf n M)
+laying-end k h I L w = rw (L .rows, L .faces) at (laid-end k h I (L .laid) w)

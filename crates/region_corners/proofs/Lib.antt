@@ -4,6 +4,8 @@
 pub mod Numbers
 -- Chains through slots.
 pub mod Links
+-- Chains that stand in one list with their slots.
+pub mod Linking
 -- The slots of corners.
 pub mod Slots
 -- Regions moved by whole numbers: their corners move with them, and their faces.
@@ -16,3 +18,5 @@ pub mod Rows
 pub mod Lookups
 -- The rows of faces of the regions so far.
 pub mod FaceRows
+-- All tables in one slice.
+pub mod Shapes

@@ -40,16 +40,16 @@ chain-start end i h = omega arith
 chain-start (slot {s = s} a b c) i h = omega (arith, h s (List·Memᴰ·head refl))
 
 -- the chains lead through the slots below i
-pub record Linked (held head link : List ℕ) (i : ℕ) : Type 0 where
+pub record ChainsUpto (held head link : List ℕ) (i : ℕ) : Type 0 where
   pub within : i ≤ length held
   pub long : length link ≡ length held
   pub below : (s : ℕ) → s < length held → getD held s 0 < length head
   pub chain : (v : ℕ) → v < length head
       → (l : List ℕ) × Chain link (getD head v 0) l × ((s : ℕ) → List·Memᴰ s l ↔ ((s < i) × (getD held s 0 ≡ v)))
 
-pub linked-start : (held head link : List ℕ) (k : ℕ) → length link ≡ length held → ((s : ℕ) → s < length held → getD held s 0 < k)
-    → head ≡ replicate k 0 → Linked held head link 0
-linked-start held head link k e b z = record {
+pub chains-start : (held head link : List ℕ) (k : ℕ) → length link ≡ length held → ((s : ℕ) → s < length held → getD held s 0 < k)
+    → head ≡ replicate k 0 → ChainsUpto held head link 0
+chains-start held head link k e b z = record {
   within = omega arith;
   long = e;
   below = λ s h. rw (z, length-replicate {A = ℕ} k 0) (b s h);
@@ -58,9 +58,10 @@ linked-start held head link k e b z = record {
       ([], rw (z, getD-replicate {A = ℕ} k v 0 0 (omega arith)) end, λ s. (λ m. absurd (List·Memᴰ·not-nil m), λ (a, b). absurd (omega arith)));
 }
 
-module _ {held head link : List ℕ} {i : ℕ} (L : Linked held head link i) (v : ℕ) (e : getD held i 0 ≡ v) (c : i < length held) where
-  b : v < length head
-  b = rw e at (L .below i c)
+module _ {held head link : List ℕ} {i : ℕ} (L : ChainsUpto held head link i) (v : ℕ) (e : getD held i 0 ≡ v) (c : i < length held) where
+  -- the number of slot i has a chain
+  pub chains-held : v < length head
+  chains-held = rw e at (L .below i c)
 
   -- the chain of another number
   others : (u : ℕ) → (u ≡ v → ⊥) → u < length head
@@ -85,7 +86,7 @@ module _ {held head link : List ℕ} {i : ℕ} (L : Linked held head link i) (v 
   own : (l : List ℕ) × Chain (set link i (getD head v 0)) (getD (set head v (i + 1)) v 0) l
       × ((s : ℕ) → List·Memᴰ s l ↔ ((s < i + 1) × (getD held s 0 ≡ v)))
   own =
-      let (l, k, m) = L .chain v b in
+      let (l, k, m) = L .chain v chains-held in
       let x = getD head v 0 in
       let d : i < length link = omega (arith, L .long) in
       let q : getD (set link i x) i 0 ≡ x = getD-set-same link i x 0 d in
@@ -93,7 +94,7 @@ module _ {held head link : List ℕ} {i : ℕ} (L : Linked held head link i) (v 
       = slot {s = i} {l = l} (rw (length-set link i x) d) (rw q (chain-start k i (λ s j. m s .0 j .0)))
       (rw q (chain-kept k i x (λ s j r. omega (arith, m s .0 j .0)))) in (
         i ∷ l,
-        rw (getD-set-same head v (i + 1) 0 b, add-one i) f,
+        rw (getD-set-same head v (i + 1) 0 chains-held, add-one i) f,
         λ s. (
           λ j. ⊎-elim (λ (r : s ≡ i). (omega arith, ap (λ (k : ℕ). getD held k 0) r ∙ e)) (λ j. (omega (arith, m s .0 j .0), m s .0 j .1))
               (List·Memᴰ·cases-cons j),
@@ -101,14 +102,14 @@ module _ {held head link : List ℕ} {i : ℕ} (L : Linked held head link i) (v 
         ),
       )
     where
-      by : (s : ℕ) → s < i + 1 → getD held s 0 ≡ v → Dec (s ≡ i) → ((s < i) × (getD held s 0 ≡ v) → List·Memᴰ s (L .chain v b .0))
-          → List·Memᴰ s (i ∷ L .chain v b .0)
+      by : (s : ℕ) → s < i + 1 → getD held s 0 ≡ v → Dec (s ≡ i) → ((s < i) × (getD held s 0 ≡ v) → List·Memᴰ s (L .chain v chains-held .0))
+          → List·Memᴰ s (i ∷ L .chain v chains-held .0)
       by s p r (yes d) f = List·Memᴰ·head d
       by s p r (no d) f = List·Memᴰ·tail (f (omega (arith, d), r))
 
   -- slot i goes in front of the chain of the number that it holds
-  pub linked-next : Linked held (set head v (i + 1)) (set link i (getD head v 0)) (i + 1)
-  linked-next = record {
+  pub chains-next : ChainsUpto held (set head v (i + 1)) (set link i (getD head v 0)) (i + 1)
+  chains-next = record {
     within = omega arith;
     below = λ s h. rw (length-set head v (i + 1)) (L .below s h);
     long = length-set link i (getD head v 0) ∙ L .long;
@@ -121,5 +122,5 @@ module _ {held head link : List ℕ} {i : ℕ} (L : Linked held head link i) (v 
       by u h (yes d) = rw d own
       by u h (no d) = others u d h
 
-pub linked-end : {held head link : List ℕ} {i : ℕ} → Linked held head link i → length held ≤ i → Chains held head link
-linked-end {held} {i = i} L h = let e : i ≡ length held = omega (arith, L .within) in record { long = L .long; chain = rw e at (L .chain) }
+pub chains-end : {held head link : List ℕ} {i : ℕ} → ChainsUpto held head link i → length held ≤ i → Chains held head link
+chains-end {held} {i = i} L h = let e : i ≡ length held = omega (arith, L .within) in record { long = L .long; chain = rw e at (L .chain) }

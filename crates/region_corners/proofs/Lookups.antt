@@ -7,26 +7,25 @@ use mathlib.Core.List.{List}
 use lib.ListN.{length, getD, set, length-set}
 use lib.Seq.{getD-set-same, getD-set-other}
 use Rattle.theory.specs.Lists.{flat}
-use Rattle.region_steps.specs.Codes.{rankCodeCount}
-use Rattle.region_corners.specs.Limits.{faceCount}
-use Rattle.region_corners.specs.Faces.{facesAt, faceRows, starts, LookedUp}
+use Rattle.limits.specs.Limits.{rankCodeCount}
+use Rattle.region_corners.specs.Faces.{faceCodes, faceRows, faceCount, starts, LookedUp}
 use Rattle.region_corners.proofs.Rows.{row-end, row-within, row-entry}
 
 -- the row of c is looked up as far as place k of the list of all rows, and `end` is the next place to fill
 pub record Looking (index : List ℕ) (base at c to : ℕ) (f₀ f : List ℕ) (k end : ℕ) : Type 0 where
   pub code : c < rankCodeCount
   pub stop : to ≡ getD (starts 0 faceRows) (c + 1) 0
-  pub legal : (y : ℕ) → y < length (facesAt c) → base + getD (facesAt c) y 0 < length index
-  pub room : at + length (facesAt c) ≤ length f
+  pub legal : (y : ℕ) → y < length (faceCodes c) → base + getD (faceCodes c) y 0 < length index
+  pub room : at + length (faceCodes c) ≤ length f
   pub count : ℕ
-  pub few : count ≤ length (facesAt c)
+  pub few : count ≤ length (faceCodes c)
   pub place : k ≡ getD (starts 0 faceRows) c 0 + count
   pub next : end ≡ at + count
-  pub looked : LookedUp index (facesAt c) base at count f₀ f
+  pub looked : LookedUp index (faceCodes c) base at count f₀ f
 
 pub looking-start : (index : List ℕ) (base at c to k : ℕ) (f : List ℕ) → c < rankCodeCount → to ≡ getD (starts 0 faceRows) (c + 1) 0
-    → k ≡ getD (starts 0 faceRows) c 0 → at + length (facesAt c) ≤ length f
-    → ((y : ℕ) → y < length (facesAt c) → base + getD (facesAt c) y 0 < length index) → Looking index base at c to f f k at
+    → k ≡ getD (starts 0 faceRows) c 0 → at + length (faceCodes c) ≤ length f
+    → ((y : ℕ) → y < length (faceCodes c) → base + getD (faceCodes c) y 0 < length index) → Looking index base at c to f f k at
 looking-start index base at c to k f h e d r l = record {
   code = h;
   stop = e;
@@ -41,10 +40,10 @@ looking-start index base at c to k f h e d r l = record {
 
 module _ {index : List ℕ} {base at c to : ℕ} {f₀ f : List ℕ} {k end : ℕ} (L : Looking index base at c to f₀ f k end) where
   module _ (h : k < to) where
-    more : L .count < length (facesAt c)
+    more : L .count < length (faceCodes c)
     more = omega (arith, L .stop, L .place, row-end c (L .code))
 
-    entry : getD (flat faceRows) k 0 ≡ getD (facesAt c) (L .count) 0
+    entry : getD (flat faceRows) k 0 ≡ getD (faceCodes c) (L .count) 0
     entry = ap (λ (k : ℕ). getD (flat faceRows) k 0) (L .place) ∙ row-entry c (L .code) (L .count) more
 
     pub looking-place : k < faceCount
@@ -73,15 +72,15 @@ module _ {index : List ℕ} {base at c to : ℕ} {f₀ f : List ℕ} {k end : �
       };
     }
       where
-        by : (y : ℕ) → y < L .count + 1 → Dec (y ≡ L .count) → getD (set f end v) (at + y) 0 ≡ getD index (base + getD (facesAt c) y 0) 0
+        by : (y : ℕ) → y < L .count + 1 → Dec (y ≡ L .count) → getD (set f end v) (at + y) 0 ≡ getD index (base + getD (faceCodes c) y 0) 0
         by y i (yes q) =
             let d : at + y ≡ end = omega (arith, L .next) in
             ap (λ (j : ℕ). getD (set f end v) j 0) d ∙ getD-set-same f end v 0 looking-room ∙ e
-            ∙ ap (λ (x : ℕ). getD index (base + x) 0) (entry ∙ ap (λ (y : ℕ). getD (facesAt c) y 0) (sym q))
+            ∙ ap (λ (x : ℕ). getD index (base + x) 0) (entry ∙ ap (λ (y : ℕ). getD (faceCodes c) y 0) (sym q))
         by y i (no q) =
             getD-set-other f end (at + y) v 0 (λ d. q (omega (arith, L .next))) ∙ L .looked .is y (omega (arith, q))
 
-  pub looking-end : to ≤ k → (end ≡ at + length (facesAt c)) × LookedUp index (facesAt c) base at (length (facesAt c)) f₀ f
+  pub looking-end : to ≤ k → (end ≡ at + length (faceCodes c)) × LookedUp index (faceCodes c) base at (length (faceCodes c)) f₀ f
   looking-end h =
-      let e : L .count ≡ length (facesAt c) = omega (arith, L .stop, L .place, L .few, row-end c (L .code)) in
+      let e : L .count ≡ length (faceCodes c) = omega (arith, L .stop, L .place, L .few, row-end c (L .code)) in
       (omega (arith, L .next), rw e at (L .looked))

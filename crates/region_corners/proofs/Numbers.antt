@@ -5,16 +5,15 @@ use mathlib.Core.Path.{_≡_, ap}
 use mathlib.Core.Bool.{Bool, true, false, cond}
 use mathlib.Core.List.{List, [], _∷_}
 use lib.ListN.{length, getD}
-use Rattle.theory.specs.Lists.{keep}
 use Rattle.theory.specs.Region.{regions}
 use Rattle.theory.proofs.Enumeration.{region-at}
-use Rattle.region.specs.Limits.{Clocks, Ceiling, tableLength}
+use Rattle.region.specs.Limits.{Clocks, Ceiling}
 use Rattle.region.specs.View.{view, structOf, Small, Known}
-use Rattle.region.specs.Packed.{unpack, packed, packedRegions, chosen}
+use Rattle.region.specs.Packed.{unpack}
+use Rattle.region_table.specs.Table.{packedRegions}
 use Rattle.region.specs.declared.Region.{Region}
-use Rattle.region.proofs.Entries.{table-length}
-use Rattle.region.proofs.Selection.{chosen-law, packed-length}
-use Rattle.region.proofs.Known.{known-small, known-struct, listed-length, listed-known}
+use Rattle.region.proofs.Known.{known-small, known-struct}
+use Rattle.region_table.proofs.Listed.{listed-length, listed-known}
 use Rattle.region_corners.specs.Corners.{regionAt}
 
 -- g is region i
@@ -34,15 +33,3 @@ module _ {n M : ℕ} (k : Clocks n) (h : Ceiling M) where
   pub at-listed : {s : List ℕ} {g : Region} → s ≡ packedRegions n M → (i : ℕ) → i < length s → g ≡ unpack (getD s i 0) → At n M i g
   at-listed {s} {g} e i l q =
       let (w, v) = listed-known n M k h s e i l g q in record { below = omega (arith, listed-length n M k h s e); known = w; is = v }
-
-  pub regions-few : length (regions n M) ≤ tableLength
-  regions-few = omega (arith, keep-few packed, ap length (chosen-law n M k h), packed-length n M, table-length)
-    where
-      keep-few : (l : List ℕ) → length (keep (chosen n M) l) ≤ length l
-      keep-few [] = omega arith
-      keep-few (x ∷ l) = by (chosen n M x) (keep-few l)
-        where
-          by : (b : Bool) → length (keep (chosen n M) l) ≤ length l
-              → length (cond b (x ∷ keep (chosen n M) l) (keep (chosen n M) l)) ≤ suc (length l)
-          by true h = omega arith
-          by false h = omega arith

@@ -14,9 +14,8 @@ use Rattle.theory.specs.Region.{fits, lawful, corners, hasCorner, face, regions
 use Rattle.theory.proofs.Below.{leb↔}
 use Rattle.theory.proofs.Lists.{every-law}
 use Rattle.theory.proofs.Sorted.{at-in}
-use Rattle.region_steps.specs.Codes.{rankCodeCount}
-use Rattle.region_corners.specs.Limits.{mostFaces, faceCount}
-use Rattle.region_corners.specs.Faces.{facesAt, faceRows, starts}
+use Rattle.limits.specs.Limits.{rankCodeCount, maxFaces}
+use Rattle.region_corners.specs.Faces.{faceCodes, faceRows, faceCount, starts}
 
 -- ---- rows
 
@@ -62,36 +61,36 @@ at-from f k zero i h = absurd (omega arith)
 at-from f k (suc c) zero h = ap f (omega arith)
 at-from f k (suc c) (suc i) h = at-from f (suc k) c i (le-of-suc-le-suc h) ∙ ap f (omega arith)
 
-row-at : (c : ℕ) → c < rankCodeCount → getD faceRows c [] ≡ facesAt c
+row-at : (c : ℕ) → c < rankCodeCount → getD faceRows c [] ≡ faceCodes c
 unfolding faceRows
-row-at c h = at-from facesAt 0 rankCodeCount c h ∙ ap facesAt (omega arith)
+row-at c h = at-from faceCodes 0 rankCodeCount c h ∙ ap faceCodes (omega arith)
 
 rows-long : length faceRows ≡ rankCodeCount
 unfolding faceRows
 rows-long = refl
 
 faces-long : length (flat faceRows) ≡ faceCount
-unfolding faceRows facesAt regions lawful fits face corners hasCorner same
+unfolding faceRows faceCodes regions lawful fits face corners hasCorner same
 faces-long = refl
 
-rows-few : every (λ l. leb (length l) mostFaces) faceRows ≡ true
-unfolding faceRows facesAt regions lawful fits face corners hasCorner same
+rows-few : every (λ l. leb (length l) maxFaces) faceRows ≡ true
+unfolding faceRows faceCodes regions lawful fits face corners hasCorner same
 rows-few = refl
 
-pub row-few : (c : ℕ) → c < rankCodeCount → length (facesAt c) ≤ mostFaces
+pub row-few : (c : ℕ) → c < rankCodeCount → length (faceCodes c) ≤ maxFaces
 row-few c h =
     rw (sym (row-at c h))
-    (every-law (λ (l : List ℕ). leb↔ (length l) mostFaces) faceRows .0 rows-few (getD faceRows c [])
+    (every-law (λ (l : List ℕ). leb↔ (length l) maxFaces) faceRows .0 rows-few (getD faceRows c [])
     (at-in [] faceRows c (rw rows-long h)))
 
 module _ (c : ℕ) (h : c < rankCodeCount) where
-  pub row-end : getD (starts 0 faceRows) (c + 1) 0 ≡ getD (starts 0 faceRows) c 0 + length (facesAt c)
+  pub row-end : getD (starts 0 faceRows) (c + 1) 0 ≡ getD (starts 0 faceRows) c 0 + length (faceCodes c)
   row-end = rw (add-one c, ← row-at c h) (start-next 0 faceRows c (rw rows-long h))
 
   pub row-within : getD (starts 0 faceRows) (c + 1) 0 ≤ faceCount
   row-within = rw (add-one c) (omega (arith, start-most 0 faceRows c (rw rows-long h), faces-long))
 
-  pub row-entry : (k : ℕ) → k < length (facesAt c) → getD (flat faceRows) (getD (starts 0 faceRows) c 0 + k) 0 ≡ getD (facesAt c) k 0
+  pub row-entry : (k : ℕ) → k < length (faceCodes c) → getD (flat faceRows) (getD (starts 0 faceRows) c 0 + k) 0 ≡ getD (faceCodes c) k 0
   row-entry k l =
       let r = row-at c h in
       row-place 0 faceRows c k (getD (starts 0 faceRows) c 0 + k) (rw rows-long h) (rw r l) (omega arith) ∙ ap (λ (m : List ℕ). getD m k 0) r

@@ -9,17 +9,17 @@ use Rattle.theory.specs.Region.{Clock, regions, shares}
 use Rattle.theory.specs.Adjacency.{ShareCorner}
 use Rattle.region.specs.Corners.{codeAt}
 use Rattle.region.specs.declared.Region.{Region}
-use Rattle.region_corners.specs.Limits.{slotCount, pointCount}
+use Rattle.limits.specs.Limits.{slotCount, pointCount}
 
 -- the region with a number
 abbrev pub regionAt : ℕ → ℕ → ℕ → List Clock
 regionAt n M i = getD (regions n M) i []
 
--- from slot s on stand the corners of g by the thresholds 4, 3, 2, 1, and the slots before are as they were
-pub record CornersFrom (g : Region) (s : ℕ) (corner corner′ : List ℕ) : Type 0 where
+-- from slot s on stand x corners of g, by the thresholds from the largest down, and the slots before are as they were
+pub record CornersFrom (g : Region) (s x : ℕ) (corner corner′ : List ℕ) : Type 0 where
   pub long : length corner′ ≡ length corner
   pub kept : (k : ℕ) → k < s → getD corner′ k 0 ≡ getD corner k 0
-  pub holds : (t : ℕ) → t < slotCount → getD corner′ (s + t) 0 ≡ codeAt g (slotCount - t)
+  pub holds : (t : ℕ) → t < x → getD corner′ (s + t) 0 ≡ codeAt g (slotCount - t)
 
 -- what the slots of all regions say
 pub record CornerSlots (n M : ℕ) (corner : List ℕ) : Type 0 where

@@ -9,7 +9,8 @@ use Rattle.theory.specs.Lists.{keep, from}
 use Rattle.theory.specs.Region.{Clock, clock, lawful, face, regions}
 use Rattle.region.specs.View.{structOf}
 use Rattle.region.specs.declared.Region.{Region}
-use Rattle.region_steps.specs.Codes.{codeOf, rankCodeCount}
+use Rattle.limits.specs.Limits.{maxClocks, wholeBase, rankBase, rankCodeCount}
+use Rattle.region_steps.specs.Codes.{codeOf}
 use Rattle.region_corners.specs.Corners.{regionAt}
 
 -- of the regions with these numbers, the second is a face of the first: "a region whose corners are some, not all, of these"
@@ -20,22 +21,27 @@ faceOf n M i j = ltb i (length (regions n M)) && (ltb j (length (regions n M)) &
 
 -- the two parts of a region's code
 abbrev pub wholeCode : Region → ℕ
-wholeCode g = ((g .w1 * 5 + g .w2) * 5 + g .w3) * 64
+wholeCode g = ((g .w1 * wholeBase + g .w2) * wholeBase + g .w3) * rankCodeCount
 
 abbrev pub rankCode : Region → ℕ
-rankCode g = g .r1 * 16 + g .r2 * 4 + g .r3
+rankCode g = (g .r1 * rankBase + g .r2) * rankBase + g .r3
 
--- three clocks with whole parts 0 and the ranks of a code
+-- the region with whole parts 0 and the ranks of a code
 abbrev pub atOrigin : ℕ → List Clock
-atOrigin c = clock 0 (c / 16) ∷ clock 0 (c / 4 % 4) ∷ clock 0 (c % 4) ∷ []
+atOrigin c = clock 0 (c / (rankBase * rankBase)) ∷ clock 0 (c / rankBase % rankBase) ∷ clock 0 (c % rankBase) ∷ []
 
 -- the codes of its faces
-unfoldable pub facesAt : ℕ → List ℕ
-facesAt c = cond (lawful 3 1 (atOrigin c)) (map (λ ys. codeOf (structOf ys)) (keep (face (atOrigin c)) (regions 3 1))) []
+unfoldable pub faceCodes : ℕ → List ℕ
+faceCodes c =
+    cond (lawful maxClocks 1 (atOrigin c)) (map (λ ys. codeOf (structOf ys)) (keep (face (atOrigin c)) (regions maxClocks 1))) []
 
 -- for all codes of ranks
 unfoldable pub faceRows : List (List ℕ)
-faceRows = map facesAt (from 0 rankCodeCount)
+faceRows = map faceCodes (from 0 rankCodeCount)
+
+-- the length of them all
+abbrev pub faceCount : ℕ
+faceCount = 170
 
 -- where the rows begin when they stand one after the other, the first at place a, and where the last one ends
 abbrev pub starts : ℕ → List (List ℕ) → List ℕ

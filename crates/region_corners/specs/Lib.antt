@@ -1,6 +1,6 @@
--- Named numbers.
-pub mod Limits
 -- The corners of every region.
 pub mod Corners
 -- The faces of every region.
 pub mod Faces
+-- All of it in one slice.
+pub mod Shapes

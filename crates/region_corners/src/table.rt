@@ -2,11 +2,11 @@
 ghost use mathlib.Core.Path.{_≡_};
 ghost use Rattle.theory.specs.Lists.{flat};
 ghost use Rattle.region_corners.specs.Faces.{faceRows, starts};
+use limits::RANK_CODES;
 
 pub const FACE_COUNT: usize = 170;
 
-// One more than the codes of ranks.
-pub const START_COUNT: usize = 65;
+pub const START_COUNT: usize = RANK_CODES + 1;
 
 // The rows, one after the other; each ascends.
 const FACES: [u16; FACE_COUNT] = [

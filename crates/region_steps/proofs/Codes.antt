@@ -19,13 +19,22 @@ use Rattle.region.specs.declared.Region.{Region}
 use Rattle.region.proofs.Views.{clears, closes}
 use Rattle.region.proofs.Packing.{lawful-small}
 use Rattle.region.proofs.Known.{known-struct}
-use Rattle.region_steps.specs.Codes.{codeCount, codeOf, resetCode, rankCodeCount, closedRanks, closedCode}
+use Rattle.limits.specs.Limits.{maxClocks, wholeBase, rankBase, rankCodeCount, codeCount}
+use Rattle.region_steps.specs.Codes.{codeOf, resetCode, closedRanks, closedCode}
 use Rattle.region_steps.specs.Tables.{Indexed}
 use Rattle.region_steps.proofs.Index.{index-own}
 
 -- the region of a code
 abbrev decode : ℕ → Region
-decode c = record { w1 = c / 1600; w2 = c / 320 % 5; w3 = c / 64 % 5; r1 = c / 16 % 4; r2 = c / 4 % 4; r3 = c % 4 }
+decode c =
+    record {
+      w1 = c / (wholeBase * wholeBase * rankCodeCount);
+      w2 = c / (wholeBase * rankCodeCount) % wholeBase;
+      w3 = c / rankCodeCount % wholeBase;
+      r1 = c / (rankBase * rankBase) % rankBase;
+      r2 = c / rankBase % rankBase;
+      r3 = c % rankBase;
+    }
 
 module _ (g : Region) (s : Small g) where
   pub code-below : codeOf g < codeCount
@@ -91,23 +100,23 @@ upto-ranks u v w a b c (suc x) =
     ap (λ m. cond (hasRank (clock 0 a ∷ clock 0 b ∷ clock 0 c ∷ []) (suc x)) (m + 1) m) (upto-ranks u v w a b c x)
 
 closed-parts : (g : Region) → Small g
-    → ((g .w1 * 5 + g .w2) * 5 + g .w3) * 64 + closedCode (g .r1 * 16 + g .r2 * 4 + g .r3) ≡ codeOf (structOf (closeUp (view 3 g)))
+    → ((g .w1 * wholeBase + g .w2) * wholeBase + g .w3) * rankCodeCount + closedCode (g .r1 * (rankBase * rankBase) + g .r2 * rankBase + g .r3) ≡ codeOf (structOf (closeUp (view maxClocks g)))
 unfolding codeOf closedRanks
 closed-parts g s =
     let up = upto-ranks (g .w1) (g .w2) (g .w3) (g .r1) (g .r2) (g .r3) in
-    ap (λ c. ((g .w1 * 5 + g .w2) * 5 + g .w3) * 64 + c) digits
+    ap (λ c. ((g .w1 * wholeBase + g .w2) * wholeBase + g .w3) * rankCodeCount + c) digits
     ∙ omega (arith, up (g .r1), up (g .r2), up (g .r3))
   where
-    d1 : (g .r1 * 16 + g .r2 * 4 + g .r3) / 16 ≡ g .r1
+    d1 : (g .r1 * (rankBase * rankBase) + g .r2 * rankBase + g .r3) / (rankBase * rankBase) ≡ g .r1
     d1 = omega (arith, s .r1, s .r2, s .r3)
 
-    d2 : (g .r1 * 16 + g .r2 * 4 + g .r3) / 4 % 4 ≡ g .r2
+    d2 : (g .r1 * (rankBase * rankBase) + g .r2 * rankBase + g .r3) / rankBase % rankBase ≡ g .r2
     d2 = omega (arith, s .r1, s .r2, s .r3)
 
-    d3 : (g .r1 * 16 + g .r2 * 4 + g .r3) % 4 ≡ g .r3
+    d3 : (g .r1 * (rankBase * rankBase) + g .r2 * rankBase + g .r3) % rankBase ≡ g .r3
     d3 = omega (arith, s .r1, s .r2, s .r3)
 
-    digits : closedCode (g .r1 * 16 + g .r2 * 4 + g .r3) ≡ closedRanks (g .r1) (g .r2) (g .r3)
+    digits : closedCode (g .r1 * (rankBase * rankBase) + g .r2 * rankBase + g .r3) ≡ closedRanks (g .r1) (g .r2) (g .r3)
     digits = λ i. closedRanks (d1 i) (d2 i) (d3 i)
 
 -- the struct x is g with the clocks of the mask at 0
@@ -120,7 +129,7 @@ pub reset-parts : (mask : ℕ) (g x : Region) → Small g
       r2 = cond (eqb (mask / 2 % 2) 1) 0 (g .r2);
       r3 = cond (eqb (mask / 2 / 2 % 2) 1) 0 (g .r3);
     }
-    → ((x .w1 * 5 + x .w2) * 5 + x .w3) * 64 + closedCode (x .r1 * 16 + x .r2 * 4 + x .r3) ≡ resetCode g mask
+    → ((x .w1 * wholeBase + x .w2) * wholeBase + x .w3) * rankCodeCount + closedCode (x .r1 * (rankBase * rankBase) + x .r2 * rankBase + x .r3) ≡ resetCode g mask
 reset-parts mask g x s e =
     let (q, t) = clears mask g x s e in
-    closed-parts x t ∙ ap (λ y. codeOf (structOf (closeUp (view 3 y)))) q ∙ ap codeOf (closes (maskBits 3 mask) g)
+    closed-parts x t ∙ ap (λ y. codeOf (structOf (closeUp (view maxClocks y)))) q ∙ ap codeOf (closes (maskBits maxClocks mask) g)

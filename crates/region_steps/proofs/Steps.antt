@@ -12,7 +12,8 @@ use Rattle.region.specs.View.{view, structOf, timeOf, laterOf, maskBits, Known}
 use Rattle.region.specs.declared.Region.{Region}
 use Rattle.region.specs.declared.Later.the-variants.{Next, Past}
 use Rattle.region.proofs.Known.{known-small, known-next, known-past, known-reset}
-use Rattle.region_steps.specs.Codes.{codeCount, maskCount, codeOf, resetCode}
+use Rattle.limits.specs.Limits.{maxClocks, maskCount, codeCount}
+use Rattle.region_steps.specs.Codes.{codeOf, resetCode}
 use Rattle.region_steps.specs.Tables.{Indexed, Column}
 use Rattle.region_steps.proofs.Index.{index-past}
 use Rattle.region_steps.proofs.Codes.{code-below, code-once, indexed-at}
@@ -58,7 +59,7 @@ module _ (n M : ℕ) (clocks : Clocks n) (ceiling : Ceiling M) where
 
         by : Dec (j ≡ i) → getD moved′ (k * count + j) 0 ≡ indexIn (regions n M) (to k (getD (regions n M) j []))
         by (yes q) =
-            let x : Region = structOf (closeUp (resetClocks (maskBits 3 k) (view 3 g))) in
+            let x : Region = structOf (closeUp (resetClocks (maskBits maxClocks k) (view maxClocks g))) in
             let (p, u) = known-reset n M clocks ceiling k g x w refl in
             rw q (col .is k a ∙ indexed-at n M index table x p ∙ ap (indexIn (regions n M)) (u ∙ ap (to k) v))
         by (no q) = let d : j < i = omega (arith, q) in col .others k j (omega arith) q ∙ h k j a d

@@ -9,7 +9,7 @@ use Rattle.theory.specs.Region.{lawful, successor, resetClocks, closeUp, region
 use Rattle.theory.proofs.Enumeration.{region-at}
 use Rattle.theory.proofs.RegionSteps.{reset-lawful}
 use Rattle.region.specs.View.{maskBits}
-use Rattle.region_steps.specs.Codes.{maskCount}
+use Rattle.limits.specs.Limits.{maskCount}
 use Rattle.region_steps.specs.Tables.{Laters, Resets}
 use Rattle.region_steps.proofs.Index.{index-le, index-back, index-below}
 

@@ -6,7 +6,8 @@ use lib.ListN.{length, getD}
 use Rattle.theory.specs.Region.{successor, resetClocks, closeUp, regions}
 use Rattle.theory.specs.StateGraph.{indexIn}
 use Rattle.region.specs.View.{structOf, maskBits}
-use Rattle.region_steps.specs.Codes.{codeCount, maskCount, codeOf}
+use Rattle.limits.specs.Limits.{codeCount, maskCount}
+use Rattle.region_steps.specs.Codes.{codeOf}
 
 -- at the code of each region stands its number
 pub record Indexed (n M : ℕ) (index : List ℕ) : Type 0 where

@@ -1,5 +1,5 @@
 // The steps of regions as tables by their numbers, filled once for a number of clocks and a ceiling, so that no step of a state is a search.
-// `table` is the list of the regions, packed, as region::select gives it; a region's number is its place there.
+// `table` is the list of the regions, packed, as region_table::select gives it; a region's number is its place there.
 ghost use mathlib.Core.Path.{_≡_};
 ghost use mathlib.Core.Bool.{cond};
 ghost use mathlib.Core.List.{[]};
@@ -9,27 +9,26 @@ ghost use Rattle.theory.specs.Region.{successor, regions};
 ghost use Rattle.theory.specs.StateGraph.{indexIn};
 ghost use Rattle.region.specs.Limits.{Clocks, Ceiling};
 ghost use Rattle.region.specs.View.{view, Small, Known};
-ghost use Rattle.region.specs.Packed.{packedRegions};
-ghost use Rattle.region_steps.specs.Codes.{codeCount, maskCount, codeOf, resetCode};
+ghost use Rattle.region_table.specs.Table.{packedRegions};
+ghost use Rattle.limits.specs.Limits.{codeCount, maskCount};
+ghost use Rattle.region_steps.specs.Codes.{codeOf, resetCode};
 ghost use Rattle.region_steps.specs.Tables.{Indexed, Laters, Resets, Column};
 
 mod ranks;
 
+use limits::MASKS;
+use limits::RANK_BASE;
+use limits::RANK_CODES;
+use limits::WHOLE_BASE;
+use limits::cast::from_short;
 use ranks::closed;
 use region::Later;
 use region::Region;
 
-// Codes of regions are the numbers below this: three whole parts up to 4, then three ranks up to 3.
-pub const CODES: usize = 8000;
+// One step of the first rank's digit.
+const RANK_SQUARE: usize = RANK_BASE * RANK_BASE;
 
-// The reset masks of three clocks.
-pub const MASKS: u8 = 8;
-
-fn wide(x: u16) -> usize
-    ensures { λ r. ⌜ r ≡ x ⌝ }
-{
-    x as usize
-}
+const MASK_COUNT: u8 = MASKS as u8;
 
 // The code of a region.
 fn code(g: Region) -> usize
@@ -37,8 +36,8 @@ fn code(g: Region) -> usize
     ensures { λ c. ⌜ c ≡ codeOf g ⌝ }
     ensures { λ c. ⌜ c < codeCount ⌝ }
 {
-    let w = (g.w1 as usize * 5 + g.w2 as usize) * 5 + g.w3 as usize;
-    w * 64 + g.r1 as usize * 16 + g.r2 as usize * 4 + g.r3 as usize
+    let w = (g.w1 as usize * WHOLE_BASE + g.w2 as usize) * WHOLE_BASE + g.w3 as usize;
+    w * RANK_CODES + g.r1 as usize * RANK_SQUARE + g.r2 as usize * RANK_BASE + g.r3 as usize
 }
 
 // A whole part or a rank: 0 where its clock is reset.
@@ -58,9 +57,9 @@ fn reset_code(g: Region, mask: u8) -> usize
     let a = mask % 2 == 1;
     let b = mask / 2 % 2 == 1;
     let c = mask / 2 / 2 % 2 == 1;
-    let w = (kept(a, g.w1) * 5 + kept(b, g.w2)) * 5 + kept(c, g.w3);
-    let r = kept(a, g.r1) * 16 + kept(b, g.r2) * 4 + kept(c, g.r3);
-    w * 64 + closed(r) as usize
+    let w = (kept(a, g.w1) * WHOLE_BASE + kept(b, g.w2)) * WHOLE_BASE + kept(c, g.w3);
+    let r = kept(a, g.r1) * RANK_SQUARE + kept(b, g.r2) * RANK_BASE + kept(c, g.r3);
+    w * RANK_CODES + closed(r) as usize
 }
 
 // Region i of the list.
@@ -81,10 +80,10 @@ pub fn fill_index(n: u8, ceiling: u8, table: &[u32], index: &mut [u16])
         ⌝ }
     ensures { λ _. ⌜ Indexed n ceiling (now (index .exit)) ⌝ }
 {
-    let count = region::count(n, ceiling);
+    let count = region_table::count(n, ceiling);
     let mut i: u16 = 0;
     while i < count {
-        let at = code(region_at(n, ceiling, table, wide(i)));
+        let at = code(region_at(n, ceiling, table, from_short(i)));
         index[at] = i;
         i += 1;
     }
@@ -96,7 +95,7 @@ pub fn number_of(index: &[u16], g: Region) -> usize
     ensures { λ r. ⌜ ((n M : ℕ) → Indexed n M (now (index .entry)) → Known n M g → r ≡ indexIn (regions n M) (view n g)) ⌝ }
 {
     let at = code(g);
-    wide(index[at])
+    from_short(index[at])
 }
 
 // The number of the region next in time, or `past` where there is none.
@@ -122,8 +121,8 @@ pub fn fill_later(n: u8, ceiling: u8, table: &[u32], index: &[u16], later: &mut 
         ⌝ }
     ensures { λ _. ⌜ Laters n ceiling (now (later .exit)) ⌝ }
 {
-    let past = region::count(n, ceiling);
-    let count = wide(past);
+    let past = region_table::count(n, ceiling);
+    let count = from_short(past);
     let mut i = 0;
     while i < count {
         let g = region_at(n, ceiling, table, i);
@@ -144,7 +143,7 @@ fn put_resets(index: &[u16], g: Region, i: usize, count: usize, moved: &mut [u16
 {
     let mut mask = 0;
     let mut at = i;
-    while mask < MASKS {
+    while mask < MASK_COUNT {
         let to = reset_code(g, mask);
         moved[at] = index[to];
         at += count;
@@ -160,7 +159,7 @@ pub fn fill_resets(n: u8, ceiling: u8, table: &[u32], index: &[u16], moved: &mut
         ⌝ }
     ensures { λ _. ⌜ Resets n ceiling (now (moved .exit)) ⌝ }
 {
-    let count = wide(region::count(n, ceiling));
+    let count = from_short(region_table::count(n, ceiling));
     let mut i = 0;
     while i < count {
         let g = region_at(n, ceiling, table, i);

@@ -1,10 +1,12 @@
-// The ranks of three clocks closed up, as a table: r1 r2 r3 read as the digits of a number in base 4.
+// The ranks of three clocks closed up, as a table: r1 r2 r3 read as the digits of a number.
 ghost use mathlib.Core.Path.{_≡_};
 ghost use Prim.Native.Nat.{_<_};
-ghost use Rattle.region_steps.specs.Codes.{rankCodeCount, closedCode};
+ghost use Rattle.limits.specs.Limits.{rankCodeCount};
+ghost use Rattle.region_steps.specs.Codes.{closedCode};
+use limits::RANK_CODES;
 
 // By the code of three ranks, their code when they are closed up.
-const CLOSED: [u8; 64] = [
+const CLOSED: [u8; RANK_CODES] = [
     0,
     1,
     1,

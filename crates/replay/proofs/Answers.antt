@@ -1,10 +1,10 @@
 -- The answer of a trail: 0 exactly where the bytes spell a trail that passes; what it then shows; which answers there are.
-use Prim.Native.Nat.{ℕ, _^_, _≤_, _<_}
+use Prim.Native.Nat.{ℕ, _^_, _<_}
 use native.Mathlib.Omega.{arith}
 use mathlib.Core.Path.{_≡_, refl, sym, ap, subst, _∙_}
 use mathlib.Core.Logic.{_↔_, _⊎_, inl, inr}
-use mathlib.Core.List.{List, [], _∷_, _++_, List·Memᴰ}
-use lib.ListN.{length, drop, length-drop, length-append}
+use mathlib.Core.List.{List, _++_, List·Memᴰ}
+use lib.ListN.{length, drop, length-drop}
 use lib.Seq.{drop-append-seam}
 use lib.Dec.{ltb}
 use borrow.Author.Tests.{le-ltb, ltb-false}
@@ -13,27 +13,19 @@ use Rattle.theory.specs.Replay.{Move, Passes}
 use Rattle.theory.specs.StateGraph.{labelledOf}
 use Rattle.theory.proofs.Below.{cond-ind}
 use Rattle.theory.proofs.Verdict.{trail-sound}
-use Rattle.number.specs.Number.{Spells, readNumber, spellAll}
-use Rattle.number.proofs.Laws.{spells-ind}
+use Rattle.number.specs.Number.{spellAll}
+use Rattle.evidence_number.specs.Evidence.{SpellsEvidence, readEvidence}
+use Rattle.evidence_number.proofs.Reading.{Reads, more, value-within, reads-first, reads-within, reads-law, spelled-some, shortest-spelled}
 use Rattle.model.specs.declared.Model.{Model}
 use Rattle.model.specs.Model.{Lawful}
 use Rattle.graph.specs.Plan.{automatonOf, systemOfModel, labelledOfModel}
 use Rattle.graph.proofs.Models.{labelled-laws}
-use Rattle.number.specs.Sequence.{SpellsAll, more}
 use Rattle.replay.specs.Spelling.{movesNumbers, trailNumbers, TrailPasses}
 use Rattle.replay.specs.Trail.{run, trailStep, trailAnswer}
-use Rattle.number.proofs.Sequence.{Reads, value-within, reads-first, reads-within, reads-law, spelled}
-use Rattle.replay.proofs.Ways.{number-ind, reached-ind, Refusal, read-refusal, told-at, told-refused}
+use Rattle.replay.proofs.Ways.{number-ind, reached-ind, Refusal, read-refusal, not-zero, told-at, told-refused}
 use Rattle.replay.proofs.Replays.{steps-told, is-steps}
 use Rattle.number.specs.declared.Number.the-variants as number
 use Rattle.theory.proofs.Replay as theory
-use Rattle.number.proofs.Sequence as numbers
-
-spells-some : {l vs : List ℕ} {v : ℕ} → SpellsAll l (v ∷ vs) → 1 ≤ length l
-spells-some (more {g = g} {bs = rest} k s) = omega (arith, length-append g rest, some k)
-  where
-    some : {g : List ℕ} {v : ℕ} → Spells g v → 1 ≤ length g
-    some = spells-ind (λ g v. 1 ≤ length g) (λ a h. omega arith) (λ a b h i. omega arith) (λ a b c h i j. omega arith)
 
 module _ (m : Model) (bs : List ℕ) (at : ℕ) where
   -- 01: "Evidence passes when its bytes spell, with nothing after, ... a trail whose steps all replay and which ends in a forbidden location.
@@ -42,17 +34,12 @@ module _ (m : Model) (bs : List ℕ) (at : ℕ) where
   unfolding trailAnswer trailNumbers labelledOf
   passes-law = (to, from)
     where
-      not-zero : (r : ℕ) → Refusal r → r ≡ 0 → ⊥
-      not-zero r (inl z) h = omega arith
-      not-zero r (inr (inl z)) h = omega arith
-      not-zero r (inr (inr z)) h = omega arith
-
       Then : ℕ → Type 0
       Then n = n ≡ 0 → TrailPasses m (drop at bs)
 
       to : Then (trailAnswer m bs at)
       to =
-          number-ind Then (readNumber bs at)
+          number-ind Then (readEvidence bs at)
           (λ k to e. reached-ind Then (run (trailStep m bs) k (systemOfModel m .start) to)
           (λ p end w. cond-ind Then (ltb end (length bs)) (λ t h. absurd (omega arith))
           (λ t. cond-ind Then (systemOfModel m .forbidden p)
@@ -60,7 +47,7 @@ module _ (m : Model) (bs : List ℕ) (at : ℕ) where
           let (vs, l, r, u) = told-at (steps-told m bs k (systemOfModel m .start) to) w in
           let (b, c) = value-within bs at k to e in
           let z : end ≡ length bs = omega (arith, reads-within r c, ltb-false end (length bs) t) in
-          let s = numbers.more (e ∙ ap (λ j. number.Value j to) (sym l)) (subst (Reads bs to (movesNumbers (automatonOf m) vs)) z r) in
+          let s = more (e ∙ ap (λ j. number.Value j to) (sym l)) (subst (Reads bs to (movesNumbers (automatonOf m) vs)) z r) in
           (vs, reads-law bs at (trailNumbers (automatonOf m) vs) (omega arith) .0 s, (p, u, f)))
           (λ f h. absurd (omega arith))))
           (λ r w h. absurd (not-zero r (told-refused (steps-told m bs k (systemOfModel m .start) to) w) h)))
@@ -68,7 +55,7 @@ module _ (m : Model) (bs : List ℕ) (at : ℕ) where
 
       from : TrailPasses m (drop at bs) → trailAnswer m bs at ≡ 0
       from (vs, s, (q, u, f)) =
-          let b = spells-some s in
+          let b = spelled-some s in
           let r = reads-law bs at (trailNumbers (automatonOf m) vs) (omega (arith, length-drop at bs)) .1 s in
           let (to, e, t) = reads-first r in
           simp (e, is-steps m bs u t, le-ltb (length bs) (length bs) (omega arith), f)
@@ -84,7 +71,7 @@ module _ (m : Model) (bs : List ℕ) (at : ℕ) where
   pub answer-range : (trailAnswer m bs at ≡ 0) ⊎ (Refusal (trailAnswer m bs at) ⊎ ((trailAnswer m bs at ≡ 6) ⊎ (trailAnswer m bs at ≡ 14)))
   unfolding trailAnswer
   answer-range =
-      number-ind Known (readNumber bs at)
+      number-ind Known (readEvidence bs at)
       (λ k to e. reached-ind Known (run (trailStep m bs) k (systemOfModel m .start) to)
       (λ p end w. cond-ind Known (ltb end (length bs)) (λ t. inr (inr (inl refl)))
       (λ t. cond-ind Known (systemOfModel m .forbidden p) (λ f. inl refl) (λ f. inr (inr (inr refl)))))
@@ -103,4 +90,4 @@ pub spelled-passes : (m : Model) (vs : List Move) → Passes (labelledOfModel m)
 spelled-passes m vs w h before =
     let ns = trailNumbers (automatonOf m) vs in
     passes-law m (before ++ spellAll ns) (length before) .1
-    (vs, subst (λ l. SpellsAll l ns) (sym (drop-append-seam before (spellAll ns))) (spelled ns h), w)
+    (vs, subst (λ l. SpellsEvidence l ns) (sym (drop-append-seam before (spellAll ns))) (shortest-spelled ns h), w)

@@ -13,14 +13,15 @@ use Rattle.theory.proofs.Below.{either, and↔, leb↔, false-unless-true}
 use Rattle.theory.proofs.Region.{lawful-law}
 use Rattle.theory.proofs.Enumeration.{lawful-whole, lawful-rank}
 use Rattle.theory.proofs.StateGraph.{at-own-index, location-below, number-below}
+use Rattle.limits.specs.Limits.{maxClocks, maxCeiling}
 use Rattle.region.specs.declared.Region.{Region}
 use Rattle.region.specs.Limits.{Clocks, Ceiling}
 use Rattle.region.specs.View.{view, nth, structOf, Small, Known}
 use Rattle.region.specs.Packed.{pack}
-use Rattle.region.specs.Lookup.{foundIn}
+use Rattle.region_table.specs.Lookup.{foundIn}
 use Rattle.region.proofs.Views.{view-struct, padded-struct, length-view}
 use Rattle.region.proofs.Packing.{lawful-small}
-use Rattle.region.proofs.Known.{found-known}
+use Rattle.region_table.proofs.Listed.{found-known}
 use Rattle.model.specs.declared.Model.{Model}
 use Rattle.model.specs.Model.{Lawful}
 use Rattle.graph.specs.Plan.{automatonOf}
@@ -28,8 +29,9 @@ use Rattle.graph.specs.States.{Listed, states}
 use Rattle.graph.specs.declared.Next.the-variants.{To, Nothing}
 use Rattle.graph.proofs.States.{clocks-of, ceiling-of, count-length, location-is, at-missing}
 use Rattle.replay.specs.Trail.{stateBeside}
-use Rattle.replay.specs.Steps.{capped, keptRegion, isSmall, lookUp}
-use Rattle.region.specs.declared.Found.the-variants as found
+use Rattle.trail_numbers.specs.Steps.{capped, keptRegion}
+use Rattle.replay.specs.Steps.{isSmall, lookUp}
+use Rattle.region_table.specs.declared.Found.the-variants as found
 
 -- ---- "w1..wn, r1..rn"
 
@@ -134,8 +136,8 @@ module _ {A : Type 0} (n M : ℕ) (k : Clocks n) (h : Ceiling M) (f : List Clock
 
 pub is-small-law : (g : Region) → (isSmall g ≡ true) ↔ Small g
 is-small-law g =
-    let t = and↔ (and↔ (leb↔ (g .w1) 4) (and↔ (leb↔ (g .w2) 4) (leb↔ (g .w3) 4)))
-    (and↔ (leb↔ (g .r1) 3) (and↔ (leb↔ (g .r2) 3) (leb↔ (g .r3) 3))) in (
+    let t = and↔ (and↔ (leb↔ (g .w1) maxCeiling) (and↔ (leb↔ (g .w2) maxCeiling) (leb↔ (g .w3) maxCeiling)))
+    (and↔ (leb↔ (g .r1) maxClocks) (and↔ (leb↔ (g .r2) maxClocks) (leb↔ (g .r3) maxClocks))) in (
       λ e. let ((a, (b, c)), (d, (i, j))) = t .0 e in record { w1 = a; w2 = b; w3 = c; r1 = d; r2 = i; r3 = j },
       λ s. t .1 ((s .w1, (s .w2, s .w3)), (s .r1, (s .r2, s .r3))),
     )

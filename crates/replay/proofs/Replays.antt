@@ -18,7 +18,9 @@ use Rattle.theory.proofs.Region.{lawful-law}
 use Rattle.theory.proofs.Enumeration.{lawful-length}
 use Rattle.theory.proofs.Labels.{opens↔}
 use Rattle.theory.proofs.StateGraph.{region-of-number, region-lawful, number-of-parts, allowed-state-law}
-use Rattle.number.specs.Number.{readNumber}
+use Rattle.evidence_number.specs.Evidence.{readEvidence}
+use Rattle.evidence_number.proofs.Reading.{Reads, none, more, reads-append, reads-split, reads-first, reads-end}
+use Rattle.trail_numbers.specs.Numbers.{labelAt, got, numbersAt}
 use Rattle.model.specs.declared.Model.{Model}
 use Rattle.model.specs.Model.{Lawful}
 use Rattle.graph.specs.Plan.{automatonOf, systemOfModel, labelledOfModel}
@@ -26,8 +28,7 @@ use Rattle.graph.specs.States.{states}
 use Rattle.replay.specs.declared.Reached.{Reached}
 use Rattle.replay.specs.declared.Reached.the-variants.{At, Refused}
 use Rattle.replay.specs.Spelling.{labelNumbers, walkNumbers, moveNumbers, movesNumbers}
-use Rattle.replay.specs.Trail.{run, flowTo, labelAt, walkStep, closedWalk, got, numbersAt, onRegion, stateBeside, faceTo, touchTo, trailStep}
-use Rattle.number.proofs.Sequence.{Reads, none, more, reads-append, reads-split, reads-first, reads-end}
+use Rattle.replay.specs.Trail.{run, flowTo, walkStep, closedWalk, onRegion, stateBeside, faceTo, touchTo, trailStep}
 use Rattle.replay.proofs.Ways.{number-ind, numbers-ind, reached-ind, bad, read-refusal, Told, reached, halted, told-at, told-refused, told-map, numbers-is, numbers-refused, is-numbers}
 use Rattle.replay.proofs.Walks.{run-told, label-is, label-refused, is-label}
 use Rattle.replay.proofs.Regions.{parts-clocks, clocks-key}
@@ -90,7 +91,7 @@ module _ (m : Model) (bs : List ℕ) where
   closed-told : (q at : ℕ) → Told (Closed q at) (closedWalk m bs q at)
   unfolding closedWalk
   closed-told q at =
-      number-ind (Told (Closed q at)) (readNumber bs at)
+      number-ind (Told (Closed q at)) (readEvidence bs at)
       (λ k to e. cond-ind (Told (Closed q at)) (eqb k 0) (λ t. halted bad)
       (λ t. reached-ind (Told (Closed q at)) (run (walkStep m bs) k q to)
       (λ p end w. cond-ind (Told (Closed q at)) (eqb p q)
@@ -220,12 +221,12 @@ module _ (m : Model) (bs : List ℕ) where
   step-told : (p at : ℕ) → Told (Stepped p at) (trailStep m bs p at)
   unfolding trailStep
   step-told p at =
-      number-ind (Told (Stepped p at)) (readNumber bs at)
+      number-ind (Told (Stepped p at)) (readEvidence bs at)
       (λ kind to e.
-      let is : (v : ℕ) → kind ≡ v → readNumber bs at ≡ number.Value v to = λ v z. e ∙ ap (λ v. number.Value v to) z in
+      let is : (v : ℕ) → kind ≡ v → readEvidence bs at ≡ number.Value v to = λ v z. e ∙ ap (λ v. number.Value v to) z in
       cond-ind (Told (Stepped p at)) (eqb kind 0) (λ t. by-flow 0 p at to (more (is 0 (eqb-true kind 0 t)) none))
       (λ t. cond-ind (Told (Stepped p at)) (eqb kind 1)
-      (λ u. number-ind (Told (Stepped p at)) (readNumber bs to)
+      (λ u. number-ind (Told (Stepped p at)) (readEvidence bs to)
       (λ x end d. by-flow (suc x) p at end (more (is 1 (eqb-true kind 1 u)) (more d none)))
       (λ r d. halted (read-refusal bs to r d)))
       (λ u. cond-ind (Told (Stepped p at)) (eqb kind 2)

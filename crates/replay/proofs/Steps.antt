@@ -16,9 +16,13 @@ use Rattle.theory.proofs.Region.{lawful-law, allowed-law}
 use Rattle.theory.proofs.System.{start-below}
 use Rattle.theory.proofs.StateGraph.{start-allowed}
 use Rattle.number.specs.declared.Number.{Number}
-use Rattle.number.specs.Number.{readNumber, onNumber}
+use Rattle.number.specs.Number.{onNumber}
+use Rattle.evidence_number.specs.Evidence.{readEvidence}
+use Rattle.trail_numbers.specs.declared.Step.{Step}
+use Rattle.trail_numbers.specs.declared.Reading.{Reading}
+use Rattle.trail_numbers.specs.Numbers.{Numbers, got, refused, onNumbers, numbersAt}
+use Rattle.trail_numbers.specs.Steps.{threeOf, onThree, regionStep, keptRegion, regionAt, jumpAt, kindAt, stepAt, onReading}
 use Rattle.region.specs.declared.Region.{Region}
-use Rattle.region.specs.Limits.{Clocks}
 use Rattle.region.specs.View.{view, structOf, Known}
 use Rattle.region.proofs.Views.{three as clock-cases}
 use Rattle.model.specs.declared.Model.{Model}
@@ -30,18 +34,15 @@ use Rattle.graph.specs.declared.Next.the-variants.{To, Nothing}
 use Rattle.graph.proofs.Plan.{capped}
 use Rattle.graph.proofs.States.{clocks-of, ceiling-of}
 use Rattle.graph.proofs.Models.{system-laws}
-use Rattle.replay.specs.declared.Step.{Step}
 use Rattle.replay.specs.declared.Reached.{Reached}
-use Rattle.replay.specs.declared.read.Reading.{Reading}
 use Rattle.replay.specs.declared.Reached.the-variants.{At, Refused}
-use Rattle.replay.specs.Trail.{flowTo, closedWalk, Numbers, got, refused, onNumbers, numbersAt, onRegion, stateBeside, faceTo, touchTo, kindStep, trailStep}
-use Rattle.replay.specs.Steps.{threeOf, onThree, regionStep, keptRegion, regionAt, jumpAt, kindAt, stepAt, onReading, goTo, stepTo}
+use Rattle.replay.specs.Trail.{flowTo, closedWalk, onRegion, stateBeside, faceTo, touchTo, kindStep, trailStep}
+use Rattle.replay.specs.Steps.{goTo, stepTo}
 use Rattle.replay.proofs.Ways.{numbers-is}
 use Rattle.replay.proofs.Regions.{keptOf, kept-view, kept-harmless}
 use Rattle.number.specs.declared.Number.the-variants as number
-use Rattle.replay.specs.declared.Step.the-variants as step
-use Rattle.replay.specs.declared.read.Three.the-variants as three
-use Rattle.replay.specs.declared.read.Reading.the-variants as reading
+use Rattle.trail_numbers.specs.declared.Step.the-variants as step
+use Rattle.trail_numbers.specs.declared.Reading.the-variants as reading
 
 -- ---- time and jump
 
@@ -112,45 +113,6 @@ module _ (m : Model) (ok : Lawful m) where
   pub start-in : (p : ℕ) → p ≡ systemOfModel m .start → p < states m
   unfolding systemOf
   start-in p e = rw e (start-below (systemOfModel m) (system-laws m ok))
-
--- ---- numbers of as many clocks as there are
-
-module _ (bs : List ℕ) (at n : ℕ) (k : Clocks n) where
-  pub three-none : (r : ℕ) → readNumber bs at ≡ number.Refused r → three.Refused r ≡ threeOf (numbersAt bs n at)
-  unfolding numbersAt
-  three-none r e = clock-cases (λ n. three.Refused r ≡ threeOf (numbersAt bs n at)) (simp e) (simp e) (simp e) n k
-
-  module _ (a p : ℕ) (e : readNumber bs at ≡ number.Value a p) where
-    pub three-one : n < 2 → three.Numbers a 0 0 p ≡ threeOf (numbersAt bs n at)
-    unfolding numbersAt
-    three-one =
-        clock-cases (λ n. n < 2 → three.Numbers a 0 0 p ≡ threeOf (numbersAt bs n at))
-        (λ h. simp e) (λ h. absurd (omega arith)) (λ h. absurd (omega arith)) n k
-
-    pub three-no-second : 2 ≤ n → (r : ℕ) → readNumber bs p ≡ number.Refused r → three.Refused r ≡ threeOf (numbersAt bs n at)
-    unfolding numbersAt
-    three-no-second h r f =
-        clock-cases (λ n. 2 ≤ n → three.Refused r ≡ threeOf (numbersAt bs n at))
-        (λ h. absurd (omega arith)) (λ h. simp (e, f)) (λ h. simp (e, f)) n k h
-
-    module _ (b q : ℕ) (f : readNumber bs p ≡ number.Value b q) where
-      pub three-two : 2 ≤ n → n < 3 → three.Numbers a b 0 q ≡ threeOf (numbersAt bs n at)
-      unfolding numbersAt
-      three-two =
-          clock-cases (λ n. 2 ≤ n → n < 3 → three.Numbers a b 0 q ≡ threeOf (numbersAt bs n at))
-          (λ h i. absurd (omega arith)) (λ h i. simp (e, f)) (λ h i. absurd (omega arith)) n k
-
-      pub three-no-third : 3 ≤ n → (r : ℕ) → readNumber bs q ≡ number.Refused r → three.Refused r ≡ threeOf (numbersAt bs n at)
-      unfolding numbersAt
-      three-no-third h r g =
-          clock-cases (λ n. 3 ≤ n → three.Refused r ≡ threeOf (numbersAt bs n at))
-          (λ h. absurd (omega arith)) (λ h. absurd (omega arith)) (λ h. simp (e, f, g)) n k h
-
-      pub three-all : 3 ≤ n → (c end : ℕ) → readNumber bs q ≡ number.Value c end → three.Numbers a b c end ≡ threeOf (numbersAt bs n at)
-      unfolding numbersAt
-      three-all h c end g =
-          clock-cases (λ n. 3 ≤ n → three.Numbers a b c end ≡ threeOf (numbersAt bs n at))
-          (λ h. absurd (omega arith)) (λ h. absurd (omega arith)) (λ h. simp (e, f, g)) n k h
 
 -- ---- faces and touches, by what is looked up
 
@@ -233,7 +195,7 @@ module _ (m : Model) (ok : Lawful m) (bs : List ℕ) (p : ℕ) where
   kind-read : (kind at : ℕ) → replayed (kindAt (m .clocks) bs kind at) ≡ kindStep m bs p kind at
   unfolding jumpAt stepTo
   kind-read zero at = refl
-  kind-read (suc zero) at = edge-read (readNumber bs at)
+  kind-read (suc zero) at = edge-read (readEvidence bs at)
   kind-read (suc (suc zero)) at = region-read 2 (faceTo m p) (λ g end. refl) (λ xs end. face-shut m p end xs) at
   kind-read (suc (suc (suc zero))) at = region-read 3 (touchTo m bs p) (λ g end. refl) (λ xs end. touch-shut m bs p end xs) at
   kind-read (suc (suc (suc (suc k)))) at =
@@ -243,7 +205,7 @@ module _ (m : Model) (ok : Lawful m) (bs : List ℕ) (p : ℕ) where
 
   step-read : (at : ℕ) → replayed (stepAt (m .clocks) bs at) ≡ trailStep m bs p at
   unfolding stepAt trailStep
-  step-read at = by (readNumber bs at)
+  step-read at = by (readEvidence bs at)
     where
       by : (n : Number) → replayed (onNumber n (kindAt (m .clocks) bs) reading.Refused) ≡ onNumber n (kindStep m bs p) Refused
       by (number.Value kind to) = kind-read kind to

@@ -12,14 +12,16 @@ use Rattle.theory.specs.Labels.{opens}
 use Rattle.theory.proofs.Below.{cond-ind}
 use Rattle.number.specs.declared.Number.{Number}
 use Rattle.number.specs.declared.Number.the-variants.{Value, Refused}
-use Rattle.number.specs.Number.{readNumber, onNumber}
+use Rattle.number.specs.Number.{onNumber}
+use Rattle.evidence_number.specs.Evidence.{readEvidence}
+use Rattle.evidence_number.proofs.Reading.{Reads, none, more, value-within, reads-first, reads-end, number-suffix, moved, reads-prefix}
+use Rattle.trail_numbers.specs.Numbers.{jumpLabel, kindLabel, labelAt}
 use Rattle.model.specs.declared.Model.{Model}
 use Rattle.graph.specs.Plan.{labelledOfModel}
 use Rattle.replay.specs.declared.Reached.{Reached}
 use Rattle.replay.specs.Spelling.{labelNumbers}
-use Rattle.replay.specs.Trail.{onReached, run, flowTo, jumpLabel, kindLabel, labelAt, walkStep, closedWalk}
+use Rattle.replay.specs.Trail.{onReached, run, flowTo, walkStep, closedWalk}
 use Rattle.replay.specs.Steps.{stepsEnd, walkPart}
-use Rattle.number.proofs.Sequence.{Reads, none, more, value-within, reads-first, reads-end, number-suffix, moved, number-prefix}
 use Rattle.replay.proofs.Ways.{number-ind, Refusal, bad, read-refusal, Told, reached, halted, told-map}
 use Rattle.replay.specs.declared.Reached.the-variants as reached
 
@@ -66,15 +68,15 @@ module _ (bs : List ℕ) where
   pub label-told : (at : ℕ) → LabelTold at (labelAt bs at)
   unfolding labelAt
   label-told at =
-      number-ind (LabelTold at) (readNumber bs at)
+      number-ind (LabelTold at) (readEvidence bs at)
       (λ kind to e. cond-ind (LabelTold at) (eqb kind 0)
       (λ t. label (more (e ∙ ap (λ v. Value v to) (eqb-true kind 0 t)) none))
       (λ t. cond-ind (LabelTold at) (eqb kind 1)
-      (λ u. edge to (e ∙ ap (λ v. Value v to) (eqb-true kind 1 u)) (readNumber bs to) refl)
+      (λ u. edge to (e ∙ ap (λ v. Value v to) (eqb-true kind 1 u)) (readEvidence bs to) refl)
       (λ u. stopped bad)))
       (λ r e. stopped (read-refusal bs at r e))
     where
-      edge : (to : ℕ) → readNumber bs at ≡ Value 1 to → (n : Number) → readNumber bs to ≡ n → LabelTold at (jumpLabel n)
+      edge : (to : ℕ) → readEvidence bs at ≡ Value 1 to → (n : Number) → readEvidence bs to ≡ n → LabelTold at (jumpLabel n)
       edge to e (Value v end) f = label (more e (more f none))
       edge to e (Refused r) f = stopped (read-refusal bs to r f)
 
@@ -114,17 +116,8 @@ module _ (bs : List ℕ) where
 -- ---- labels in a part of the bytes
 
 module _ (bs : List ℕ) (n : ℕ) where
-  reads-last : {at end : ℕ} {vs : List ℕ} → Reads bs at vs end → at ≤ end
-  reads-last none = omega arith
-  reads-last (more {at = at} {to = to} {v = v} r s) = let h = reads-last s in omega (arith, value-within bs at v to r)
-
-  reads-prefix : {at end : ℕ} {vs : List ℕ} → Reads bs at vs end → end ≤ n → Reads (take n bs) at vs end
-  reads-prefix none h = none
-  reads-prefix (more {at = at} {to = to} {v = v} r s) h =
-      more (number-prefix bs n at v to r (let b = reads-last s in omega arith)) (reads-prefix s h)
-
   label-prefix : (at x end : ℕ) → labelAt bs at ≡ Value x end → end ≤ n → labelAt (take n bs) at ≡ Value x end
-  label-prefix at x end e h = is-label (take n bs) at x end (reads-prefix (label-is bs at x end e) h)
+  label-prefix at x end e h = is-label (take n bs) at x end (reads-prefix n (label-is bs at x end e) h)
 
 module _ (bs : List ℕ) (a : ℕ) where
   label-moved : (kind to : ℕ) (edge : Number) → kindLabel kind (to - a) (moved a edge) ≡ moved a (kindLabel kind to edge)
@@ -140,16 +133,16 @@ module _ (bs : List ℕ) (a : ℕ) where
 
   label-suffix : (i : ℕ) → labelAt (drop a bs) i ≡ moved a (labelAt bs (a + i))
   unfolding labelAt
-  label-suffix i = rw (number-suffix bs a i) (by (readNumber bs (a + i)) refl)
+  label-suffix i = rw (number-suffix bs a i) (by (readEvidence bs (a + i)) refl)
     where
-      by : (n : Number) → readNumber bs (a + i) ≡ n
-          → onNumber (moved a n) (λ kind to. kindLabel kind to (readNumber (drop a bs) to)) Refused
-          ≡ moved a (onNumber n (λ kind to. kindLabel kind to (readNumber bs to)) Refused)
+      by : (n : Number) → readEvidence bs (a + i) ≡ n
+          → onNumber (moved a n) (λ kind to. kindLabel kind to (readEvidence (drop a bs) to)) Refused
+          ≡ moved a (onNumber n (λ kind to. kindLabel kind to (readEvidence bs to)) Refused)
       by (Value kind to) e =
           let (b, h) = value-within bs (a + i) kind to e in
           ap (kindLabel kind (to - a))
-          (number-suffix bs a (to - a) ∙ ap (λ j. moved a (readNumber bs j)) (let z : a + (to - a) ≡ to = omega arith in z))
-          ∙ label-moved kind to (readNumber bs to)
+          (number-suffix bs a (to - a) ∙ ap (λ j. moved a (readEvidence bs j)) (let z : a + (to - a) ≡ to = omega arith in z))
+          ∙ label-moved kind to (readEvidence bs to)
       by (Refused r) e = refl
 
 -- ---- where the steps of a walk end
@@ -292,7 +285,7 @@ module _ (m : Model) (bs : List ℕ) where
 
 -- ---- the walk of a touch, as the code has it: w is the part of the bytes, d what its replay gives
 
-module _ (bs : List ℕ) (at k p : ℕ) (e : readNumber bs at ≡ Value k p) where
+module _ (bs : List ℕ) (at k p : ℕ) (e : readEvidence bs at ≡ Value k p) where
   part-within : p ≤ length bs
   part-within = value-within bs at k p e .1
 

@@ -1,15 +1,18 @@
 -- What comes of a reading, by its ways: a value or a refusal; a state reached or a refusal.
 use Prim.Native.Nat.{ℕ, zero, suc}
+use native.Mathlib.Omega.{arith}
 use mathlib.Core.Path.{_≡_, refl, ap, subst}
 use mathlib.Core.Logic.{_⊎_, inl, inr}
 use mathlib.Core.List.{List, _∷_}
 use lib.ListN.{length}
 use Rattle.number.specs.declared.Number.{Number}
-use Rattle.number.specs.Number.{readNumber, onNumber}
+use Rattle.number.specs.Number.{onNumber}
+use Rattle.evidence_number.specs.Evidence.{readEvidence, NumberRefusal}
+use Rattle.evidence_number.proofs.Reading.{Reads, none, more, refused-within, refusal-positive}
+use Rattle.trail_numbers.specs.Numbers.{Numbers, got, refused, onNumbers, numbersAt}
 use Rattle.replay.specs.declared.Reached.{Reached}
 use Rattle.replay.specs.declared.Reached.the-variants.{At, Refused}
-use Rattle.replay.specs.Trail.{onReached, Numbers, got, refused, onNumbers, numbersAt}
-use Rattle.number.proofs.Sequence.{Reads, none, more, refused-within}
+use Rattle.replay.specs.Trail.{onReached}
 use Rattle.number.specs.declared.Number.the-variants as number
 
 -- a property of each way is one of what comes of the reading
@@ -31,17 +34,17 @@ module _ {A : Type 0} (P : A → Type 0) where
 
 -- the refusals of numbers and steps
 abbrev pub Refusal : ℕ → Type 0
-Refusal r = (r ≡ 1) ⊎ ((r ≡ 2) ⊎ (r ≡ 13))
+Refusal r = NumberRefusal r ⊎ (r ≡ 13)
 
 pub bad : Refusal 13
-bad = inr (inr refl)
+bad = inr refl
 
-pub read-refusal : (bs : List ℕ) (at r : ℕ) → readNumber bs at ≡ number.Refused r → Refusal r
-read-refusal bs at r e = by (refused-within bs at r e)
-  where
-    by : (r ≡ 1) ⊎ (r ≡ 2) → Refusal r
-    by (inl z) = inl z
-    by (inr z) = inr (inl z)
+pub read-refusal : (bs : List ℕ) (at r : ℕ) → readEvidence bs at ≡ number.Refused r → Refusal r
+read-refusal bs at r e = inl (refused-within bs at r e)
+
+pub not-zero : (r : ℕ) → Refusal r → r ≡ 0 → ⊥
+not-zero r (inl z) h = omega (arith, refusal-positive r z)
+not-zero r (inr z) h = omega arith
 
 -- a state and an offset with a property, or a refusal
 pub data Told (P : ℕ → ℕ → Type 0) : Reached → Type 0 where
@@ -76,11 +79,11 @@ module _ (bs : List ℕ) where
   unfolding numbersAt
   numbers-told zero at = told refl none
   numbers-told (suc k) at =
-      number-ind (NumbersTold (suc k) at) (readNumber bs at)
+      number-ind (NumbersTold (suc k) at) (readEvidence bs at)
       (λ v to e. by v to e (numbersAt bs k to) (numbers-told k to))
       (λ r e. stopped (read-refusal bs at r e))
     where
-      by : (v to : ℕ) → readNumber bs at ≡ number.Value v to → (n : Numbers) → NumbersTold k to n
+      by : (v to : ℕ) → readEvidence bs at ≡ number.Value v to → (n : Numbers) → NumbersTold k to n
           → NumbersTold (suc k) at (onNumbers n (λ vs end. got (v ∷ vs) end) refused)
       by v to e (got vs end) (told l s) = told (ap suc l) (more e s)
       by v to e (refused r) (stopped h) = stopped h

@@ -2,7 +2,7 @@
 use Prim.Native.Nat.{ℕ, zero, suc}
 use mathlib.Core.List.{List, [], _∷_, _++_}
 use lib.ListN.{length}
-use Rattle.number.specs.Sequence.{SpellsAll}
+use Rattle.evidence_number.specs.Evidence.{SpellsEvidence}
 use Rattle.theory.specs.Automaton.{Automaton}
 use Rattle.theory.specs.Enumeration.{key}
 use Rattle.theory.specs.StateGraph.{regionOf}
@@ -37,4 +37,4 @@ trailNumbers a vs = length vs ∷ movesNumbers a vs
 
 -- "its bytes spell, with nothing after, ... a trail whose steps all replay and which ends in a forbidden location": the bytes after the 2
 abbrev pub TrailPasses : Model → List ℕ → Type 0
-TrailPasses m bs = (vs : List Move) × SpellsAll bs (trailNumbers (automatonOf m) vs) × Passes (labelledOfModel m) vs
+TrailPasses m bs = (vs : List Move) × SpellsEvidence bs (trailNumbers (automatonOf m) vs) × Passes (labelledOfModel m) vs

@@ -2,19 +2,19 @@
 -- the last number of a bad region; for a walk that doesn't close, after its last step." p, q are states; `at` is an offset.
 use Prim.Native.Nat.{ℕ, zero, suc}
 use mathlib.Core.Bool.{cond, _&&_}
-use mathlib.Core.List.{List, [], _∷_}
+use mathlib.Core.List.{List}
 use lib.ListN.{length}
 use lib.Dec.{ltb, eqb}
 use Rattle.theory.specs.Region.{Region, clocks, lawful}
 use Rattle.theory.specs.StateGraph.{locationOf, numberOf}
 use Rattle.theory.specs.Labels.{opens}
-use Rattle.number.specs.declared.Number.{Number}
-use Rattle.number.specs.Number.{readNumber, onNumber}
+use Rattle.number.specs.Number.{onNumber}
+use Rattle.evidence_number.specs.Evidence.{readEvidence}
+use Rattle.trail_numbers.specs.Numbers.{labelAt, onNumbers, numbersAt}
 use Rattle.model.specs.declared.Model.{Model}
 use Rattle.graph.specs.Plan.{automatonOf, systemOfModel, labelledOfModel}
 use Rattle.replay.specs.declared.Reached.{Reached}
 use Rattle.replay.specs.declared.Reached.the-variants.{At, Refused}
-use Rattle.number.specs.declared.Number.the-variants as number
 
 abbrev pub onReached : {A : Type 0} → Reached → (ℕ → ℕ → A) → (ℕ → A) → A
 onReached (At q at) go stop = go q at
@@ -33,44 +33,17 @@ flowTo m x p at = cond (opens (labelledOfModel m) x p) (At (labelledOfModel m .n
 
 -- ---- the closed walk of a touch: "a count of at least 1, then a closed walk from that region made of kinds 0 and 1"
 
--- the label of a step by its kind and what is read of its edge; a kind above 1 is bad at once
-abbrev pub jumpLabel : Number → Number
-jumpLabel (number.Value e to) = number.Value (suc e) to
-jumpLabel (number.Refused r) = number.Refused r
-
-abbrev pub kindLabel : ℕ → ℕ → Number → Number
-kindLabel kind to edge = cond (eqb kind 0) (number.Value 0 to) (cond (eqb kind 1) (jumpLabel edge) (number.Refused 13))
-
-unfoldable pub labelAt : List ℕ → ℕ → Number
-labelAt bs at = onNumber (readNumber bs at) (λ kind to. kindLabel kind to (readNumber bs to)) number.Refused
-
 unfoldable pub walkStep : Model → List ℕ → ℕ → ℕ → Reached
 walkStep m bs p at = onNumber (labelAt bs at) (λ x to. flowTo m x p to) Refused
 
 unfoldable pub closedWalk : Model → List ℕ → ℕ → ℕ → Reached
 closedWalk m bs q at =
-    onNumber (readNumber bs at) (λ k to.
+    onNumber (readEvidence bs at) (λ k to.
     cond (eqb k 0) (Refused 13)
     (onReached (run (walkStep m bs) k q to) (λ p end. cond (eqb p q) (At q end) (Refused 13)) Refused))
     Refused
 
 -- ---- face and touch
-
--- k numbers and the offset after them, or the refusal
-pub data Numbers : Type 0 where
-  got : List ℕ → ℕ → Numbers
-  refused : ℕ → Numbers
-
-abbrev pub onNumbers : {A : Type 0} → Numbers → (List ℕ → ℕ → A) → (ℕ → A) → A
-onNumbers (got vs to) go stop = go vs to
-onNumbers (refused r) go stop = stop r
-
-unfoldable pub numbersAt : List ℕ → ℕ → ℕ → Numbers
-numbersAt bs zero at = got [] at
-numbersAt bs (suc k) at =
-    onNumber (readNumber bs at) (λ v to.
-    onNumbers (numbersAt bs k to) (λ vs end. got (v ∷ vs) end) refused)
-    refused
 
 -- "w1..wn, r1..rn"; its single numbers are judged by 1 and 2 only
 abbrev pub onRegion : {A : Type 0} → ℕ → List ℕ → ℕ → (Region → ℕ → A) → (ℕ → A) → A
@@ -101,18 +74,18 @@ touchTo m bs p xs at =
 abbrev pub kindStep : Model → List ℕ → ℕ → ℕ → ℕ → Reached
 kindStep m bs p kind at =
     cond (eqb kind 0) (flowTo m 0 p at)
-    (cond (eqb kind 1) (onNumber (readNumber bs at) (λ e to. flowTo m (suc e) p to) Refused)
+    (cond (eqb kind 1) (onNumber (readEvidence bs at) (λ e to. flowTo m (suc e) p to) Refused)
     (cond (eqb kind 2) (onRegion (m .clocks) bs at (faceTo m p) Refused)
     (cond (eqb kind 3) (onRegion (m .clocks) bs at (touchTo m bs p) Refused)
     (Refused 13))))
 
 unfoldable pub trailStep : Model → List ℕ → ℕ → ℕ → Reached
-trailStep m bs p at = onNumber (readNumber bs at) (kindStep m bs p) Refused
+trailStep m bs p at = onNumber (readEvidence bs at) (kindStep m bs p) Refused
 
 -- 0 or the refusal, of the bytes from an offset on: "a step count, then steps, the first one from the start"
 unfoldable pub trailAnswer : Model → List ℕ → ℕ → ℕ
 trailAnswer m bs at =
-    onNumber (readNumber bs at) (λ k to.
+    onNumber (readEvidence bs at) (λ k to.
     onReached (run (trailStep m bs) k (systemOfModel m .start) to) (λ p end.
     cond (ltb end (length bs)) 6 (cond (systemOfModel m .forbidden p) 0 14))
     (λ r. r)) (λ r. r)

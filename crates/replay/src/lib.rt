@@ -1,32 +1,31 @@
 // A trail, read from its bytes and replayed step by step (01, "Evidence").
-// `table` is the list of the model's regions, packed, as region::select gives it.
-mod read;
+// `table` is the list of the model's regions, packed, as region_table::select gives it.
 mod walk;
 
 ghost use mathlib.Core.Path.{_≡_};
-ghost use Prim.Native.Nat.{_<_};
 ghost use Rattle.region.specs.View.{view};
 ghost use Rattle.model.specs.Model.{Lawful};
 ghost use Rattle.graph.specs.Plan.{systemOfModel};
-ghost use Rattle.graph.specs.States.{Listed, states};
+ghost use Rattle.graph.specs.States.{Listed};
 ghost use Rattle.replay.specs.Trail.{faceTo, touchTo, run, trailStep, trailAnswer};
-ghost use Rattle.replay.specs.Steps.{isSmall, lookUp, stepTo};
+ghost use Rattle.replay.specs.Steps.{From, isSmall, lookUp, stepTo};
 use graph::Next;
-use model::MAX_CEILING;
-use model::MAX_CLOCKS;
+use limits::MAX_CEILING;
+use limits::MAX_CLOCKS;
+use limits::refusal::BYTES_REMAIN;
+use limits::refusal::TRAIL_END;
+use limits::refusal::TRAIL_STEP;
 use model::Model;
 use number::Number;
-use read::Reading;
-use region::Found;
 use region::Region;
+use region_table::Found;
+use trail_numbers::Reading;
+use trail_numbers::Step;
 
-// A step of a trail, all but a touch's walk. 01: "0 time; 1 jump, edge number; 2 face, w1..wn, r1..rn; 3 touch, the region likewise".
-pub enum Step {
-    Time,
-    Jump(u32),
-    Face(Region),
-    Touch(Region),
-}
+// As wide as a region's numbers.
+const CEILING: u8 = MAX_CEILING as u8;
+
+const CLOCKS: u8 = MAX_CLOCKS as u8;
 
 // A state that was reached and the offset after what was read, or the refusal: 1, 2 or 13.
 pub enum Reached {
@@ -58,21 +57,21 @@ fn start(m: Model, table: &[u32]) -> usize
 fn is_small(g: Region) -> bool
     ensures { λ b. ⌜ b ≡ isSmall g ⌝ }
 {
-    let wholes = (g.w1 <= MAX_CEILING) & ((g.w2 <= MAX_CEILING) & (g.w3 <= MAX_CEILING));
-    let ranks = (g.r1 <= MAX_CLOCKS) & ((g.r2 <= MAX_CLOCKS) & (g.r3 <= MAX_CLOCKS));
+    let wholes = (g.w1 <= CEILING) & ((g.w2 <= CEILING) & (g.w3 <= CEILING));
+    let ranks = (g.r1 <= CLOCKS) & ((g.r2 <= CLOCKS) & (g.r3 <= CLOCKS));
     wholes & ranks
 }
 
 // The state of a region at the location of s, allowed or not; nothing where there is no such region.
 fn look_up(m: Model, table: &[u32], s: usize, g: Region) -> Next
-    requires { ⌜ Lawful m × Listed m (now table) × (s < states m) ⌝ }
+    requires { ⌜ From m (now table) s ⌝ }
     ensures { λ r. ⌜ r ≡ lookUp m s (view (m .clocks) g) ⌝ }
 {
     let h = g.first(m.clocks);
     if !is_small(h) {
         return Next::Nothing;
     }
-    let found = region::find(table, h.pack());
+    let found = region_table::find(table, h.pack());
     let Found::At(i) = found else {
         return Next::Nothing;
     };
@@ -82,37 +81,37 @@ fn look_up(m: Model, table: &[u32], s: usize, g: Region) -> Next
 
 // A face step.
 fn to_face(m: Model, table: &[u32], s: usize, g: Region, at: usize) -> Reached
-    requires { ⌜ Lawful m × Listed m (now table) × (s < states m) ⌝ }
+    requires { ⌜ From m (now table) s ⌝ }
     ensures { λ r. ⌜ r ≡ faceTo m s (view (m .clocks) g) at ⌝ }
 {
     let found = look_up(m, table, s, g);
     let Next::To(q) = found else {
-        return Reached::Refused(13);
+        return Reached::Refused(TRAIL_STEP);
     };
     if graph::has_face(m, table, s, q) {
         return Reached::At(q, at);
     }
-    Reached::Refused(13)
+    Reached::Refused(TRAIL_STEP)
 }
 
 // A touch step, with its walk.
 fn to_touch(m: Model, table: &[u32], bytes: &[u8], s: usize, g: Region, at: usize) -> Reached
-    requires { ⌜ Lawful m × Listed m (now table) × (s < states m) ⌝ }
+    requires { ⌜ From m (now table) s ⌝ }
     ensures { λ r. ⌜ r ≡ touchTo m (now (bytes .entry)) s (view (m .clocks) g) at ⌝ }
 {
     let found = look_up(m, table, s, g);
     let Next::To(q) = found else {
-        return Reached::Refused(13);
+        return Reached::Refused(TRAIL_STEP);
     };
     if graph::near(m, table, s, q) {
         return walk::closed_walk(m, table, bytes, q, at);
     }
-    Reached::Refused(13)
+    Reached::Refused(TRAIL_STEP)
 }
 
 // Replays a step that was read up to an offset.
 fn advance(m: Model, table: &[u32], bytes: &[u8], step: Step, s: usize, at: usize) -> Reached
-    requires { ⌜ Lawful m × Listed m (now table) × (s < states m) ⌝ }
+    requires { ⌜ From m (now table) s ⌝ }
     ensures { λ r. ⌜ r ≡ stepTo m (now (bytes .entry)) step s at ⌝ }
 {
     match step {
@@ -125,12 +124,12 @@ fn advance(m: Model, table: &[u32], bytes: &[u8], step: Step, s: usize, at: usiz
 
 // Reads and replays one step.
 fn one_step(m: Model, table: &[u32], bytes: &[u8], s: usize, at: usize) -> Reached
-    requires { ⌜ Lawful m × Listed m (now table) × (s < states m) ⌝ }
+    requires { ⌜ From m (now table) s ⌝ }
     ensures { λ r. ⌜ r ≡ trailStep m (now (bytes .entry)) s at ⌝ }
 {
-    let got = read::read_step(bytes, at, m.clocks);
+    let got = trail_numbers::read_step(bytes, at, m.clocks);
     let Reading::Read(step, p) = got else {
-        return Reached::Refused(read::step_refusal(got));
+        return Reached::Refused(trail_numbers::step_refusal(got));
     };
     advance(m, table, bytes, step, s, p)
 }
@@ -160,7 +159,7 @@ pub fn replay(m: Model, table: &[u32], bytes: &[u8], at: usize) -> u8
     requires { ⌜ Lawful m × Listed m (now table) ⌝ }
     ensures { λ r. ⌜ r ≡ trailAnswer m (now (bytes .entry)) at ⌝ }
 {
-    let got = number::read(bytes, at);
+    let got = evidence_number::read(bytes, at);
     let Number::Value(count, p) = got else {
         return number::refusal_of(got);
     };
@@ -169,10 +168,10 @@ pub fn replay(m: Model, table: &[u32], bytes: &[u8], at: usize) -> u8
         return walk::refusal(done);
     };
     if end < bytes.len() {
-        return 6;
+        return BYTES_REMAIN;
     }
     if graph::forbidden(m, table, s) {
         return 0;
     }
-    14
+    TRAIL_END
 }

@@ -1,14 +1,12 @@
 // Time and jump steps, and the closed walk of a touch, replayed from the part of the evidence that spells it.
 ghost use mathlib.Core.Path.{_≡_};
-ghost use Prim.Native.Nat.{suc, _<_, _≤_};
+ghost use Prim.Native.Nat.{suc, _≤_};
 ghost use lib.ListN.{length};
-ghost use Rattle.model.specs.Model.{Lawful};
-ghost use Rattle.graph.specs.States.{Listed, states};
 ghost use Rattle.replay.specs.Trail.{flowTo, run, walkStep, closedWalk};
-ghost use Rattle.replay.specs.Steps.{goTo, reachedRefusal, stepsEnd, walkPart};
+ghost use Rattle.replay.specs.Steps.{From, goTo, reachedRefusal, stepsEnd, walkPart};
 use crate::Reached;
-use crate::read;
 use graph::Next;
+use limits::refusal::TRAIL_STEP;
 use model::Model;
 use number::Number;
 
@@ -27,13 +25,13 @@ fn go(next: Next, at: usize) -> Reached
 {
     match next {
         Next::To(q) => Reached::At(q, at),
-        Next::Nothing => Reached::Refused(13),
+        Next::Nothing => Reached::Refused(TRAIL_STEP),
     }
 }
 
 // A time step.
 pub fn to_time(m: Model, table: &[u32], s: usize, at: usize) -> Reached
-    requires { ⌜ Lawful m × Listed m (now table) × (s < states m) ⌝ }
+    requires { ⌜ From m (now table) s ⌝ }
     ensures { λ r. ⌜ r ≡ flowTo m 0 s at ⌝ }
 {
     go(graph::time_step(m, table, s), at)
@@ -41,21 +39,21 @@ pub fn to_time(m: Model, table: &[u32], s: usize, at: usize) -> Reached
 
 // A jump; an edge that the model lacks leads nowhere.
 pub fn to_jump(m: Model, table: &[u32], e: u32, s: usize, at: usize) -> Reached
-    requires { ⌜ Lawful m × Listed m (now table) × (s < states m) ⌝ }
+    requires { ⌜ From m (now table) s ⌝ }
     ensures { λ r. ⌜ r ≡ flowTo m (suc e) s at ⌝ }
 {
     if (m.edges as u32) <= e {
-        return Reached::Refused(13);
+        return Reached::Refused(TRAIL_STEP);
     }
     go(graph::jump_step(m, table, e as usize, s), at)
 }
 
 // One step of a walk.
 fn walk_step(m: Model, table: &[u32], part: &[u8], s: usize, at: usize) -> Reached
-    requires { ⌜ Lawful m × Listed m (now table) × (s < states m) ⌝ }
+    requires { ⌜ From m (now table) s ⌝ }
     ensures { λ r. ⌜ r ≡ walkStep m (now (part .entry)) s at ⌝ }
 {
-    let got = read::read_label(part, at);
+    let got = trail_numbers::read_label(part, at);
     let Number::Value(x, p) = got else {
         return Reached::Refused(number::refusal_of(got));
     };
@@ -74,7 +72,7 @@ fn steps_end(bytes: &[u8], at: usize, count: u32) -> usize
     let mut p = at;
     let mut left = count;
     while 0 < left {
-        let got = read::read_label(bytes, p);
+        let got = trail_numbers::read_label(bytes, p);
         let Number::Value(_, next) = got else {
             return bytes.len();
         };
@@ -95,7 +93,7 @@ fn walk_part(evidence: &[u8], at: usize, count: u32) -> &[u8]
 
 // Replays the walk that a part spells.
 fn replay_walk(m: Model, table: &[u32], part: &[u8], count: u32, q: usize) -> Reached
-    requires { ⌜ Lawful m × Listed m (now table) × (q < states m) ⌝ }
+    requires { ⌜ From m (now table) q ⌝ }
     ensures { λ r. ⌜ r ≡ run (walkStep m (now (part .entry))) count q 0 ⌝ }
 {
     let mut s = q;
@@ -115,15 +113,15 @@ fn replay_walk(m: Model, table: &[u32], part: &[u8], count: u32, q: usize) -> Re
 
 // The walk of a touch of q: its count, its steps, and that it closes.
 pub fn closed_walk(m: Model, table: &[u32], bytes: &[u8], q: usize, at: usize) -> Reached
-    requires { ⌜ Lawful m × Listed m (now table) × (q < states m) ⌝ }
+    requires { ⌜ From m (now table) q ⌝ }
     ensures { λ r. ⌜ r ≡ closedWalk m (now (bytes .entry)) q at ⌝ }
 {
-    let got = number::read(bytes, at);
+    let got = evidence_number::read(bytes, at);
     let Number::Value(count, p) = got else {
         return Reached::Refused(number::refusal_of(got));
     };
     if count == 0 {
-        return Reached::Refused(13);
+        return Reached::Refused(TRAIL_STEP);
     }
     let part = walk_part(bytes, p, count);
     let done = replay_walk(m, table, part, count, q);
@@ -133,5 +131,5 @@ pub fn closed_walk(m: Model, table: &[u32], bytes: &[u8], q: usize, at: usize) -
     if s == q {
         return Reached::At(q, p + part.len());
     }
-    Reached::Refused(13)
+    Reached::Refused(TRAIL_STEP)
 }

@@ -2,7 +2,7 @@
 use mathlib.Core.Path.{_≡_, refl, sym, ap, subst, _∙_}
 use mathlib.Core.Bool.{Bool, true, false, cond, true≢false}
 use mathlib.Core.Logic.{_↔_, _⊎_, inl, inr, ⊎-elim}
-use mathlib.Core.List.{List, [], _∷_, _++_}
+use mathlib.Core.List.{List, [], _∷_}
 use Prim.Native.Nat.{ℕ, zero, suc, _+_, _-_, _*_, _≤_, _<_}
 use native.Mathlib.Omega.{arith}
 use native.Mathlib.Nat.{add-zero, zero-add}
@@ -14,16 +14,15 @@ use Rattle.theory.specs.Sheet.{Sheet, keeps, inOf, heightOf}
 use Rattle.theory.proofs.Below.{either, cond-ind, test↔, leb↔, eqb↔, and↔, or↔}
 use Rattle.theory.proofs.Sheet.{keeps-law}
 use Rattle.number.specs.declared.Number.{Number}
-use Rattle.number.specs.Number.{readNumber, onNumber}
-use Rattle.number.specs.Sequence.{SpellsAll}
-use Rattle.number.proofs.Laws.{Sound, sound}
-use Rattle.number.proofs.Sequence.{Reads, none, more, reads-spell, spell-reads}
+use Rattle.number.specs.Number.{onNumber}
+use Rattle.evidence_number.specs.Evidence.{SpellsEvidence, readEvidence}
+use Rattle.evidence_number.proofs.Reading.{Reads, none, more, refused-within, refusal-positive, reads-spelled, spelled-reads}
 use Rattle.model.specs.declared.Model.{Model}
 use Rattle.model.specs.Model.{Lawful}
 use Rattle.graph.specs.Plan.{systemOfModel}
 use Rattle.graph.proofs.Models.{system-laws}
-use Rattle.sheet.specs.Numbers.{Numbers, got, stop, onNumbers, after, numberKeeps, numbersFrom}
-use Rattle.sheet.specs.Rules.{Blank}
+use Rattle.sheet_numbers.specs.Numbers.{Numbers, got, stop, onNumbers, after, numberKeeps, numbersFrom}
+use Rattle.sheet_rules.specs.Rules.{Blank}
 use Rattle.sheet.specs.Answer.{sheetNumbers, sheetRefusal, sheetAnswer}
 use Rattle.number.specs.declared.Number.the-variants as number
 
@@ -68,20 +67,20 @@ module _ (allowed : ℕ → Bool) (top : ℕ) (bs : List ℕ) where
   answers : (n i at : ℕ) → Answers n i at (numbersFrom allowed top bs n i at)
   unfolding numbersFrom Answers Keep
   answers zero i at = (refl, none, λ j h. absurd (omega arith))
-  answers (suc n) i at = by (answers n (i + 1)) (readNumber bs at) refl (sound bs at)
+  answers (suc n) i at = by (answers n (i + 1)) (readEvidence bs at) refl
     where
-      next : (v p : ℕ) → readNumber bs at ≡ number.Value v p → numberKeeps (allowed i) top v ≡ true → (c : Numbers) → Answers n (i + 1) p c
+      next : (v p : ℕ) → readEvidence bs at ≡ number.Value v p → numberKeeps (allowed i) top v ≡ true → (c : Numbers) → Answers n (i + 1) p c
           → Answers (suc n) i at (after (v ∷ []) c)
       next v p r t (got l e) (h, w, k) = (ap suc h, more r w, both-keep i v l t k)
       next v p r t (stop x) h = h
 
-      by : ((p : ℕ) → Answers n (i + 1) p (numbersFrom allowed top bs n (i + 1) p)) → (x : Number) → readNumber bs at ≡ x → Sound bs at x
+      by : ((p : ℕ) → Answers n (i + 1) p (numbersFrom allowed top bs n (i + 1) p)) → (x : Number) → readEvidence bs at ≡ x
           → Answers (suc n) i at
           (onNumber x (λ v p. cond (numberKeeps (allowed i) top v) (after (v ∷ []) (numbersFrom allowed top bs n (i + 1) p)) (stop 11)) stop)
-      by ih (number.Value v p) r s =
+      by ih (number.Value v p) r =
           cond-ind (Answers (suc n) i at) (numberKeeps (allowed i) top v)
           (λ t. next v p r t (numbersFrom allowed top bs n (i + 1) p) (ih p)) (λ _. omega arith)
-      by ih (number.Refused x) r s = omega (arith, s .0)
+      by ih (number.Refused x) r = refusal-positive x (refused-within bs at x r)
 
 -- ---- the ways through the check
 
@@ -128,13 +127,13 @@ module _ (Y : System) (bs : List ℕ) (at : ℕ) where
 module _ (Y : System) (L : Laws Y) (bs : List ℕ) (at : ℕ) where
   -- 01: "Evidence passes when its bytes spell, with nothing after, a sheet that keeps the rules"
   abbrev Passes : Type 0
-  Passes = (l : List ℕ) × SpellsAll (drop at bs) l × Sheet Y l
+  Passes = (l : List ℕ) × SpellsEvidence (drop at bs) l × Sheet Y l
 
   passes-end : (l : List ℕ) (end : ℕ) → Sheets Y bs at (got l end) → length bs ≤ end → keeps Y (inOf l) (heightOf l) ≡ true → Passes
   unfolding Sheets Answers
   passes-end l end t h k = (
     l,
-    reads-spell bs (t .1) h,
+    reads-spelled bs (t .1) h,
     record {
       long = t .0;
       bounded = λ p b. sheets-at Y bs at l end t p b .0;
@@ -170,14 +169,14 @@ module _ (Y : System) (L : Laws Y) (bs : List ℕ) (at : ℕ) where
 
   is-refusal : Passes → sheetRefusal Y bs at ≡ 0
   is-refusal (l, s, S) =
-      let (end, w, h) = spell-reads bs s at refl in
+      let (end, w, h) = spelled-reads bs s at refl in
       let n = rw (S .long) at (reads-numbers (Y .allowed) (2 * Y .size - 1) bs 0 w (sheet-keep l S)) in
       sym (answer-keeps Y bs at l end n h (keeps-law Y L (inOf l) (heightOf l) .1 (S .rules)))
 
-  pub refusal-law : (sheetRefusal Y bs at ≡ 0) ↔ ((l : List ℕ) × SpellsAll (drop at bs) l × Sheet Y l)
+  pub refusal-law : (sheetRefusal Y bs at ≡ 0) ↔ ((l : List ℕ) × SpellsEvidence (drop at bs) l × Sheet Y l)
   refusal-law = (refusal-is, is-refusal)
 
 -- for a lawful model
 pub sheet-law : (m : Model) → Lawful m → (bs : List ℕ) (at : ℕ)
-    → (sheetAnswer m bs at ≡ 0) ↔ ((l : List ℕ) × SpellsAll (drop at bs) l × Sheet (systemOfModel m) l)
+    → (sheetAnswer m bs at ≡ 0) ↔ ((l : List ℕ) × SpellsEvidence (drop at bs) l × Sheet (systemOfModel m) l)
 sheet-law m ok = refusal-law (systemOfModel m) (system-laws m ok)

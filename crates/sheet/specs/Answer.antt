@@ -1,4 +1,5 @@
 -- What a sheet's bytes are answered by: 0 where they spell a sheet that keeps the rules, or else the refusal.
+use mathlib.Core.Path.{_≡_}
 use mathlib.Core.Bool.{cond}
 use mathlib.Core.List.{List}
 use Prim.Native.Nat.{ℕ, _-_, _*_}
@@ -8,7 +9,10 @@ use Rattle.theory.specs.System.{System}
 use Rattle.theory.specs.Sheet.{inOf, heightOf, keeps}
 use Rattle.model.specs.declared.Model.{Model}
 use Rattle.graph.specs.Plan.{systemOfModel}
-use Rattle.sheet.specs.Numbers.{Numbers, onNumbers, numbersFrom}
+use Rattle.graph.specs.States.{states}
+use Rattle.successors.specs.Flags.{AllowedFlags}
+use Rattle.sheet_numbers.specs.Numbers.{Numbers, onNumbers, numbersFrom}
+use Rattle.sheet_rules.specs.Tables.{Filled}
 
 -- "S numbers in state order", "all at most 2S-1", from an offset on
 abbrev pub sheetNumbers : System → List ℕ → ℕ → Numbers
@@ -23,3 +27,9 @@ sheetRefusal Y bs at =
 
 abbrev pub sheetAnswer : Model → List ℕ → ℕ → ℕ
 sheetAnswer m = sheetRefusal (systemOfModel m)
+
+-- what the check is lent: a flag for each state, 1 where it is allowed, the arrays of the rules, and a place for the number of each state
+pub record Lent (m : Model) (allowed first targets shapes sheet : List ℕ) : Type 0 where
+  pub flags : AllowedFlags m allowed
+  pub filled : Filled m first targets shapes
+  pub long : length sheet ≡ states m

@@ -1,16 +1,12 @@
 // A sheet from anywhere: its numbers read, its rules tested. Linear in the bytes, the states and their steps.
 
 ghost use mathlib.Core.Path.{_≡_};
-ghost use lib.ListN.{length};
-ghost use Rattle.graph.specs.States.{states};
-ghost use Rattle.sheet.specs.Answer.{sheetAnswer};
-ghost use Rattle.sheet.specs.Tables.{Lent};
-
-mod read;
-mod rules;
-
+ghost use Rattle.sheet.specs.Answer.{Lent, sheetAnswer};
+use limits::Word;
+use limits::refusal::BYTES_REMAIN;
+use limits::refusal::SHEET_RULE;
 use model::Model;
-use read::Extent;
+use sheet_numbers::Extent;
 
 // 0 where the bytes from an offset on, after the number 1, spell with nothing after a sheet that keeps the rules, or else the refusal:
 // 1, 2, 6, 11 or 12. Into `sheet` go the numbers that are read.
@@ -20,27 +16,22 @@ pub fn check_sheet(
     at: usize,
     allowed: &[u8],
     first: &[u32],
-    targets: &[u16],
-    rows: &[u16],
-    faces: &[u16],
-    corner: &[u16],
-    sheet: &mut [u16],
+    targets: &[Word],
+    shapes: &[Word],
+    sheet: &mut [Word],
 ) -> u8
-    requires { ⌜
-        Lent m (now allowed) (now first) (now targets) (now rows) (now faces) (now corner)
-        × (length (now sheet) ≡ states m)
-        ⌝ }
+    requires { ⌜ Lent m (now allowed) (now first) (now targets) (now shapes) (now sheet) ⌝ }
     ensures { λ r. ⌜ r ≡ sheetAnswer m (now (bytes .entry)) at ⌝ }
 {
-    let got = read::read_numbers(bytes, at, allowed, sheet);
+    let got = sheet_numbers::read_numbers(bytes, at, allowed, sheet);
     let Extent::End(end) = got else {
-        return read::refusal(got);
+        return sheet_numbers::refusal(got);
     };
     if end < bytes.len() {
-        return 6;
+        return BYTES_REMAIN;
     }
-    if rules::sheet_keeps(m, first, targets, rows, faces, corner, sheet) {
+    if sheet_rules::sheet_keeps(m, first, targets, shapes, sheet) {
         return 0;
     }
-    12
+    SHEET_RULE
 }

@@ -1,7 +1,7 @@
 -- The numbers of our sheet as they are found and laid.
 use mathlib.Core.Path.{_≡_, refl, sym, ap, _∙_}
 use mathlib.Core.List.{List, [], _∷_, _++_, append-nil}
-use Prim.Native.Nat.{ℕ, zero, suc, _+_, _*_, _/_, _^_, _≤_, _<_, suc-le-suc}
+use Prim.Native.Nat.{ℕ, zero, suc, _+_, _*_, _/_, _≤_, _<_, suc-le-suc}
 use native.Mathlib.Omega.{arith}
 use lib.ListN.{length, getD}
 use lib.Dec.{ltb}
@@ -12,6 +12,8 @@ use Rattle.theory.specs.Sheet.{number, ourSheet}
 use Rattle.theory.specs.StateGraph.{systemOf}
 use Rattle.theory.proofs.Below.{bit-le, tab-length}
 use Rattle.theory.proofs.Levels.{mark-marks}
+use Rattle.theory.proofs.Height.{height-below}
+use Rattle.limits.specs.Limits.{maxStates}
 use Rattle.number.specs.Number.{spell, spellAll}
 use Rattle.model.specs.declared.Model.{Model}
 use Rattle.model.specs.Model.{Lawful}
@@ -25,7 +27,7 @@ use Rattle.spelling.proofs.Lays.{lays-then, lays-as, spell-append, spell-few, s
 
 -- a state's number, by what is known of it
 abbrev pub found : List ℕ → List ℕ → ℕ → ℕ
-found info far p = getD info p 0 / 2 * 2 + bit (ltb 0 (getD far p 0))
+found heights distances p = getD heights p 0 / 2 * 2 + bit (ltb 0 (getD distances p 0))
 
 -- ---- a list of numbers, one more at its end
 
@@ -66,7 +68,7 @@ laid-next {p = p} {v = v} f a b e =
 
 -- there is room for a number after those of few states
 pub room-next : {o o₁ o₂ : List ℕ} {at r p : ℕ} (f : ℕ → ℕ) (v : ℕ) → Lays o o₁ 0 at (spell 1) → Lays o₁ o₂ at r (spellAll (tab p f))
-    → p ≤ 2 ^ 16 → r + length (spell v) ≤ mostBytes
+    → p ≤ maxStates → r + length (spell v) ≤ mostBytes
 room-next {p = p} f v a b h =
     omega (arith, a .end, spell-few 1, b .end, spell-all-few (tab p f), tab-length p f, spell-few v)
 
@@ -75,31 +77,45 @@ room-next {p = p} f v a b h =
 half-twice : (x h b : ℕ) → x ≡ 2 * h + b → b ≤ 1 → x / 2 * 2 ≡ 2 * h
 half-twice x h b e l = omega arith
 
-module _ {m : Model} {info far : List ℕ} (ok : Lawful m) (known : Surveyed m info far) where
-  pub same-long : length far ≡ length info
+module _ {m : Model} {heights distances : List ℕ} (ok : Lawful m) (known : Surveyed m heights distances) where
+  pub same-long : length distances ≡ length heights
   unfolding systemOf
   same-long = known .distances .long ∙ sym (known .heights .long)
 
-  pub few-states : length info ≤ 2 ^ 16
+  pub few-states : length heights ≤ maxStates
   few-states = omega (arith, known .heights .long, states-limit ok)
 
-  found-number : (p : ℕ) → p < states m → found info far p ≡ number (systemOfModel m) p
+  -- a height is below the number of states
+  pub height-fits : (p : ℕ) → p < length heights → getD heights p 0 < 2 * maxStates
+  unfolding systemOf
+  height-fits p b =
+      let l = known .heights .long in
+      let c : p < states m = omega arith in
+      omega (
+        arith,
+        known .heights .are p c,
+        bit-le (onClosedWalk (systemOfModel m) p),
+        height-below (systemOfModel m) (system-laws m ok) p c,
+        states-limit ok,
+      )
+
+  found-number : (p : ℕ) → p < states m → found heights distances p ≡ number (systemOfModel m) p
   unfolding number systemOf
   found-number p b =
-      let h = half-twice (getD info p 0) (height (systemOfModel m) p) _ (known .heights .are p b) (bit-le (onClosedWalk (systemOfModel m) p)) in
+      let h = half-twice (getD heights p 0) (height (systemOfModel m) p) _ (known .heights .are p b) (bit-le (onClosedWalk (systemOfModel m) p)) in
       rw (h, known .distances .is p b, mark-marks (systemOfModel m) (system-laws m ok) p) refl
 
-  found-sheet : (p : ℕ) → p ≡ length info → tab p (found info far) ≡ ourSheet (systemOfModel m)
+  found-sheet : (p : ℕ) → p ≡ length heights → tab p (found heights distances) ≡ ourSheet (systemOfModel m)
   unfolding ourSheet systemOf
   found-sheet p e =
-      ap (λ (n : ℕ). tab n (found info far)) (e ∙ known .heights .long)
-      ∙ tab-same (states m) (found info far) (number (systemOfModel m)) found-number
+      ap (λ (n : ℕ). tab n (found heights distances)) (e ∙ known .heights .long)
+      ∙ tab-same (states m) (found heights distances) (number (systemOfModel m)) found-number
 
   -- all states
-  pub all-laid : {o o₁ o₂ : List ℕ} {at r p : ℕ} → Lays o o₁ 0 at (spell 1) → Lays o₁ o₂ at r (spellAll (tab p (found info far))) → p ≡ length info
+  pub all-laid : {o o₁ o₂ : List ℕ} {at r p : ℕ} → Lays o o₁ 0 at (spell 1) → Lays o₁ o₂ at r (spellAll (tab p (found heights distances))) → p ≡ length heights
       → Lays o o₂ 0 r (spellAll (1 ∷ ourSheet (systemOfModel m)))
   all-laid {p = p} a b e =
       lays-as (lays-then a b)
-      (ap (λ (l : List ℕ). l ++ spellAll (tab p (found info far))) (sym (spell-one 1))
-      ∙ sym (spell-append (1 ∷ []) (tab p (found info far)))
+      (ap (λ (l : List ℕ). l ++ spellAll (tab p (found heights distances))) (sym (spell-one 1))
+      ∙ sym (spell-append (1 ∷ []) (tab p (found heights distances)))
       ∙ ap (λ (l : List ℕ). spellAll (1 ∷ l)) (found-sheet p e))

@@ -1,13 +1,19 @@
--- Bytes laid into a lent output from an offset on.
+-- Bytes laid into a lent output from an offset on, and how many our evidence takes at most.
 use mathlib.Core.Path.{_≡_}
 use mathlib.Core.List.{List}
-use Prim.Native.Nat.{ℕ, _+_, _^_, _≤_}
+use Prim.Native.Nat.{ℕ, _+_, _*_, _≤_}
 use lib.ListN.{length}
 use lib.Seq.{sets}
+use Rattle.limits.specs.Limits.{maxClocks, maxStates}
 
--- Offsets stay far below what a machine word holds.
+-- the most numbers of a step: a touch has its kind, a region, a count and a walk, which has at most one step more than there are states, and each
+-- of these a kind and an edge
+abbrev pub mostMoveNumbers : ℕ
+mostMoveNumbers = 2 + 2 * maxClocks + 2 * (maxStates + 1)
+
+-- the most bytes of evidence, three a number: of a trail, with its 2, its count and fewer steps than there are states; a sheet has fewer numbers
 abbrev pub mostBytes : ℕ
-mostBytes = 2 ^ 40
+mostBytes = 3 * (2 + mostMoveNumbers * maxStates)
 
 -- They end at r. Where they fit, just they are stored; where they don't, only the length of the output is known to be kept.
 pub record Lays (out out′ : List ℕ) (at r : ℕ) (bs : List ℕ) : Type 0 where

@@ -16,7 +16,7 @@ use Rattle.model.specs.declared.Model.{Model}
 use Rattle.model.specs.Model.{sourceOf}
 use Rattle.graph.specs.Plan.{automatonOf, systemOfModel, labelledOfModel}
 use Rattle.graph.specs.States.{states}
-use Rattle.successors.specs.Limits.{stateLimit}
+use Rattle.limits.specs.Limits.{maxStates}
 use Rattle.successors.specs.Rows.{Puts, HoldsBelow}
 use Rattle.successors.specs.Flow.{Given, LeavingEdges, AllowedAt, TimeTo, regionsIn, stateOf, FlowLists, room}
 use Rattle.successors.proofs.Rows.{puts-none, puts-then, holds-first, holds-more, holds-all}
@@ -55,7 +55,7 @@ module _ {m : Model} {table later moved allowed : List ℕ} (given : Given m tab
     pub flag-in : l * length table + i < length allowed
     flag-in = omega (arith, state-in, given .flags .long)
 
-    pub time-room : (i < length later) × (l * length table + length later ≤ length allowed) × (length allowed ≤ stateLimit)
+    pub time-room : (i < length later) × (l * length table + length later ≤ length allowed) × (length allowed ≤ maxStates)
     unfolding automatonOf regionCount
     time-room =
         let a : (l + 1) * length table ≤ m .locations * length table = mul-le-mul-right (length table) (omega arith) in

@@ -12,10 +12,9 @@ use Rattle.theory.specs.Below.{bit}
 use Rattle.theory.specs.Region.{regions, fits}
 use Rattle.theory.specs.StateGraph.{locationOf, regionOf, allowedState}
 use Rattle.region.specs.View.{view, Known}
-use Rattle.region.specs.Limits.{packedBound}
-use Rattle.region.specs.Packed.{unpack}
+use Rattle.region.specs.Packed.{packedBound, unpack}
 use Rattle.region.specs.declared.Region.{Region}
-use Rattle.region.proofs.Known.{listed-known, listed-below}
+use Rattle.region_table.proofs.Listed.{listed-known, listed-below}
 use Rattle.model.specs.declared.Model.{Model}
 use Rattle.model.specs.Model.{Lawful}
 use Rattle.graph.specs.Plan.{automatonOf}

@@ -13,7 +13,7 @@ use Rattle.theory.specs.Below.{bit, count}
 use Rattle.theory.specs.Lists.{keep, from}
 use Rattle.theory.proofs.Below.{count-le}
 use Rattle.theory.proofs.Sorted.{keep-law, from-law, at-in, in-at}
-use Rattle.region.proofs.Selection.{Filled, filled-start, filled-in, filled-out, filled-end}
+use Rattle.region_table.proofs.Selection.{Filled, filled-start, filled-in, filled-out, filled-end}
 use Rattle.model.specs.declared.Model.{Model}
 use Rattle.model.specs.Model.{sourceOf}
 use Rattle.successors.specs.Flow.{leaving}

@@ -4,36 +4,21 @@ use native.Mathlib.Decide.{decLt}
 use native.Mathlib.Nat.{add-mul, mul-le-mul, mul-le-mul-right}
 use native.Mathlib.Omega.{arith}
 use mathlib.Core.Path.{_≡_, refl, ap, _∙_}
-use mathlib.Core.Bool.{Bool, true, false, cond}
-use mathlib.Core.List.{List, [], _∷_}
+use mathlib.Core.Bool.{Bool}
+use mathlib.Core.List.{List}
 use lib.ListN.{length, getD}
 use lib.Dec.{eqb, ltb}
 use borrow.Author.Tests.{eq-eqb, ne-eqb, lt-ltb, le-ltb}
 use Rattle.theory.specs.Below.{bit, count}
-use Rattle.theory.specs.Lists.{keep}
-use Rattle.theory.specs.StateGraph.{regionCount}
 use Rattle.theory.proofs.Below.{count-le}
-use Rattle.region.specs.Limits.{tableLength}
-use Rattle.region.specs.Packed.{packed, chosen}
-use Rattle.region.proofs.Selection.{chosen-law, packed-length}
-use Rattle.region.proofs.Entries.{table-length}
+use Rattle.limits.specs.Limits.{maxRegions, maxStates, maxSteps}
 use Rattle.model.specs.declared.Model.{Model}
 use Rattle.model.specs.Model.{Lawful, sourceOf}
-use Rattle.graph.specs.Plan.{automatonOf}
 use Rattle.graph.specs.States.{Listed, states}
-use Rattle.graph.proofs.States.{clocks-of, ceiling-of}
-use Rattle.successors.specs.Limits.{stateLimit, stepLimit}
 use Rattle.successors.specs.Flow.{regionsIn, leaving, FlowLists, room}
 use Rattle.successors.proofs.Flags.{count-is}
 use Rattle.successors.proofs.Leaving.{leaving-count}
-
-keep-most : (f : ℕ → Bool) (l : List ℕ) → length (keep f l) ≤ length l
-keep-most f [] = omega arith
-keep-most f (x ∷ l) = by (f x) (keep-most f l)
-  where
-    by : (b : Bool) → length (keep f l) ≤ length l → length (cond b (x ∷ keep f l) (keep f l)) ≤ suc (length l)
-    by true h = omega arith
-    by false h = omega arith
+use Rattle.graph.proofs.States as graph
 
 -- where two tests pass at no place together, the count of both is the sum
 count-both : (n : ℕ) (f g h : ℕ → Bool) → ((i : ℕ) → bit (h i) ≡ bit (f i) + bit (g i)) → count n h ≡ count n f + count n g
@@ -56,32 +41,23 @@ below-next x l = by (decLt x l) (decLt l x)
 -- ---- limits of a lawful model
 
 module _ {m : Model} (ok : Lawful m) where
-  pub regions-limit : regionsIn m ≤ tableLength
-  unfolding automatonOf regionCount
-  regions-limit =
-      omega (
-        arith,
-        packed-length (m .clocks) (m .ceiling),
-        ap length (chosen-law (m .clocks) (m .ceiling) (clocks-of m ok) (ceiling-of m ok)),
-        keep-most (chosen (m .clocks) (m .ceiling)) packed,
-        table-length,
-      )
+  pub regions-limit : regionsIn m ≤ maxRegions
+  regions-limit = graph.regions-limit m ok
 
-  -- "S is L times the count"
-  pub states-limit : states m ≤ stateLimit
-  states-limit = omega (arith, mul-le-mul (ok .locations .1) regions-limit)
+  pub states-limit : states m ≤ maxStates
+  states-limit = graph.states-limit m ok
 
   -- where a location's states begin
-  pub base-limit : {table : List ℕ} → Listed m table → (l : ℕ) → l ≤ m .locations → l * length table ≤ stateLimit
+  pub base-limit : {table : List ℕ} → Listed m table → (l : ℕ) → l ≤ m .locations → l * length table ≤ maxStates
   base-limit {table} listed l h =
       let e : m .locations * length table ≡ states m = ap (λ c. m .locations * c) (count-is ok listed) in
       omega (arith, mul-le-mul-right (length table) h, states-limit)
 
-  pub steps-limit : states m + m .edges * regionsIn m ≤ stepLimit
+  pub steps-limit : states m + m .edges * regionsIn m ≤ maxSteps
   steps-limit = omega (arith, mul-le-mul (ok .edges) regions-limit, states-limit)
 
   -- with the fields of `Holds` and `states-limit`, what the searches ask of the lists
-  pub lists-limit : {first targets : List ℕ} → FlowLists m first targets → getD first (states m) 0 ≤ stepLimit
+  pub lists-limit : {first targets : List ℕ} → FlowLists m first targets → getD first (states m) 0 ≤ maxSteps
   lists-limit f = omega (arith, f .few, steps-limit)
 
 -- ---- room

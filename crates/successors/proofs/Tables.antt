@@ -15,7 +15,7 @@ use Rattle.theory.specs.StateGraph.{regionsOf, regionCount, indexIn, allowedSta
 use Rattle.region.specs.View.{view, maskBits}
 use Rattle.region.specs.declared.Region.{Region}
 use Rattle.region.proofs.Views.{three}
-use Rattle.region_steps.specs.Codes.{maskCount}
+use Rattle.limits.specs.Limits.{maskCount}
 use Rattle.region_steps.specs.Tables.{Laters, Resets}
 use Rattle.region_steps.proofs.Tables.{moved-below}
 use Rattle.model.specs.declared.Model.{Model}

@@ -1,7 +1,5 @@
 -- What the lists of steps are filled from, and what is promised of them.
 
--- The largest numbers of states and steps.
-pub mod Limits
 -- Flags of the allowed states.
 pub mod Flags
 -- Adjacency lists in the making.

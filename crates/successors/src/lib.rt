@@ -1,5 +1,5 @@
 // The time and jump steps of all states of a model as adjacency lists. The steps of regions come from tables by region number, so none is searched
-// for. `table` is the list of the model's regions, packed, as region::select gives it; state l * len + i is region i of location l.
+// for. `table` is the list of the model's regions, packed, as region_table::select gives it; state l * len + i is region i of location l.
 
 ghost use mathlib.Core.Path.{_≡_};
 ghost use mathlib.Core.Bool.{true};
@@ -11,25 +11,16 @@ ghost use Rattle.region_steps.specs.Tables.{Resets};
 ghost use Rattle.model.specs.Model.{Lawful, sourceOf};
 ghost use Rattle.graph.specs.Plan.{systemOfModel, labelledOfModel};
 ghost use Rattle.graph.specs.States.{Listed, states};
-ghost use Rattle.successors.specs.Limits.{stateLimit};
+ghost use Rattle.limits.specs.Limits.{maxStates};
 ghost use Rattle.successors.specs.Flags.{FlagsBelow, AllowedFlags};
 ghost use Rattle.successors.specs.Rows.{Puts, HoldsBelow};
 ghost use Rattle.successors.specs.Flow.{Given, AllowedAt, IfFlagged, TimeTo, regionsIn, stateOf, leaving, LeavingEdges, FlowLists, room};
-use model::EDGE_SLOTS;
+use limits::MAX_EDGES;
+use limits::Word;
+use limits::cast::from_byte;
+use limits::cast::from_short;
 use model::Model;
 use region::Region;
-
-fn wide(x: u16) -> usize
-    ensures { λ r. ⌜ r ≡ x ⌝ }
-{
-    x as usize
-}
-
-fn byte(x: u8) -> usize
-    ensures { λ r. ⌜ r ≡ x ⌝ }
-{
-    x as usize
-}
 
 fn flag(b: bool) -> u8
     ensures { λ r. ⌜ r ≡ bit b ⌝ }
@@ -56,7 +47,7 @@ pub fn fill_allowed(m: Model, table: &[u32], allowed: &mut [u8])
     requires { ⌜ Lawful m × Listed m (now table) × (length (now allowed) ≡ states m) ⌝ }
     ensures { λ _. ⌜ AllowedFlags m (now (allowed .exit)) ⌝ }
 {
-    let locations = byte(m.locations);
+    let locations = from_byte(m.locations);
     let mut l = 0;
     while l < locations {
         flag_location(m, table, l, allowed);
@@ -75,7 +66,7 @@ fn list_leaving(m: Model, l: usize, edges: &mut [u8]) -> usize
     while e < count {
         let here = e;
         e += 1;
-        if byte(m.source[byte(here)]) == l {
+        if from_byte(m.source[from_byte(here)]) == l {
             edges[n] = here;
             n += 1;
         }
@@ -84,12 +75,12 @@ fn list_leaving(m: Model, l: usize, edges: &mut [u8]) -> usize
 }
 
 // If state q is allowed, it is put at place n; the next free place.
-fn put(allowed: &[u8], q: usize, targets: &mut [u16], n: usize) -> usize
-    requires { ⌜ (q < length (now allowed)) × (length (now allowed) ≤ stateLimit) × (n < length (now targets)) ⌝ }
+fn put(allowed: &[u8], q: usize, targets: &mut [Word], n: usize) -> usize
+    requires { ⌜ (q < length (now allowed)) × (length (now allowed) ≤ maxStates) × (n < length (now targets)) ⌝ }
     ensures { λ r. ⌜ Puts 1 (IfFlagged (now (allowed .entry)) q) (now (targets .entry)) (now (targets .exit)) n r ⌝ }
 {
     if allowed[q] == 1 {
-        targets[n] = q as u16;
+        targets[n] = q as Word;
         return n + 1;
     }
     n
@@ -101,18 +92,18 @@ fn put_time(
     allowed: &[u8],
     base: usize,
     i: usize,
-    targets: &mut [u16],
+    targets: &mut [Word],
     n: usize,
 ) -> usize
     requires { ⌜
-        (i < length (now later)) × (base + length (now later) ≤ length (now allowed)) × (length (now allowed) ≤ stateLimit)
+        (i < length (now later)) × (base + length (now later) ≤ length (now allowed)) × (length (now allowed) ≤ maxStates)
         × (n < length (now targets))
         ⌝ }
     ensures { λ r. ⌜
         Puts 1 (TimeTo (now (later .entry)) (now (allowed .entry)) base i) (now (targets .entry)) (now (targets .exit)) n r
         ⌝ }
 {
-    let j = wide(later[i]);
+    let j = from_short(later[i]);
     if j < later.len() {
         return put(allowed, base + j, targets, n);
     }
@@ -128,7 +119,7 @@ fn put_jump(
     e: usize,
     i: usize,
     g: Region,
-    targets: &mut [u16],
+    targets: &mut [Word],
     n: usize,
 ) -> usize
     requires { ⌜
@@ -140,8 +131,8 @@ fn put_jump(
         ⌝ }
 {
     if graph::guard(m, e, g) {
-        let j = wide(moved[byte(m.reset[e]) * count + i]);
-        return put(allowed, byte(m.target[e]) * count + j, targets, n);
+        let j = from_short(moved[from_byte(m.reset[e]) * count + i]);
+        return put(allowed, from_byte(m.target[e]) * count + j, targets, n);
     }
     n
 }
@@ -156,7 +147,7 @@ fn put_row(
     edges: &[u8],
     l: usize,
     i: usize,
-    targets: &mut [u16],
+    targets: &mut [Word],
     n: usize,
 ) -> usize
     requires { ⌜
@@ -177,7 +168,17 @@ fn put_row(
     let mut end = put_time(later, allowed, base, i, targets, n);
     let mut k = 0;
     while k < edges.len() {
-        end = put_jump(m, count, moved, allowed, byte(edges[k]), i, g, targets, end);
+        end = put_jump(
+            m,
+            count,
+            moved,
+            allowed,
+            from_byte(edges[k]),
+            i,
+            g,
+            targets,
+            end,
+        );
         k += 1;
     }
     end
@@ -193,7 +194,7 @@ fn put_rows(
     edges: &[u8],
     l: usize,
     first: &mut [u32],
-    targets: &mut [u16],
+    targets: &mut [Word],
     n: usize,
 ) -> usize
     requires { ⌜
@@ -226,7 +227,7 @@ fn fill_location(
     allowed: &[u8],
     l: usize,
     first: &mut [u32],
-    targets: &mut [u16],
+    targets: &mut [Word],
     n: usize,
 ) -> usize
     requires { ⌜
@@ -239,7 +240,7 @@ fn fill_location(
         × HoldsBelow (now (first .exit)) (now (targets .exit)) (states m) (systemOfModel m .flow) ((l + 1) * regionsIn m) r
         ⌝ }
 {
-    let mut edges = [0u8; EDGE_SLOTS];
+    let mut edges = [0u8; MAX_EDGES];
     let count = list_leaving(m, l, &mut edges);
     put_rows(
         m,
@@ -264,7 +265,7 @@ pub fn fill_flow(
     moved: &[u16],
     allowed: &[u8],
     first: &mut [u32],
-    targets: &mut [u16],
+    targets: &mut [Word],
 )
     requires { ⌜
         Given m (now table) (now later) (now moved) (now allowed) × (length (now first) ≡ states m + 1)
@@ -272,7 +273,7 @@ pub fn fill_flow(
         ⌝ }
     ensures { λ _. ⌜ FlowLists m (now (first .exit)) (now (targets .exit)) ⌝ }
 {
-    let locations = byte(m.locations);
+    let locations = from_byte(m.locations);
     first[0] = 0;
     let mut n = 0;
     let mut l = 0;

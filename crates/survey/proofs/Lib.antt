@@ -1,3 +1,6 @@
-pub mod Lent
+-- The start.
 pub mod Start
+-- What the searches ask of the tables, and what they find.
 pub mod Tables
+-- Forbidden states.
+pub mod Forbidden

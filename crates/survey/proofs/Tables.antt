@@ -1,13 +1,16 @@
 -- The tables of a model are what the search for closed walks and the marking ask for.
-use Prim.Native.Nat.{ℕ, suc, _+_, _*_, _/_, _%_, _≤_, _<_}
+use Prim.Native.Nat.{ℕ, _+_, _*_, _/_, _%_, _≤_, _<_}
 use native.Mathlib.Omega.{arith}
-use native.Mathlib.Nat.{mod-lt}
+use native.Mathlib.Nat.{mod-lt, mul-le-mul-right}
 use native.Mathlib.Numerals.{add-one}
 use mathlib.Core.Path.{_≡_, refl, sym, ap, _∙_}
-use mathlib.Core.Bool.{Bool, true, false}
+use mathlib.Core.Bool.{Bool, true, false, _&&_}
 use mathlib.Core.Logic.{_↔_}
-use mathlib.Core.List.{List, []}
+use mathlib.Core.List.{List}
 use lib.ListN.{length, getD}
+use Rattle.limits.specs.Limits.{maxStates, slotCount, pointCount}
+use Rattle.shapes.specs.Layout.{shapesEnd, cornersIn}
+use Rattle.shapes.proofs.Parts.{corners-long}
 use Rattle.theory.specs.Below.{bit}
 use Rattle.theory.specs.System.{onClosedWalk}
 use Rattle.theory.specs.Height.{height}
@@ -15,7 +18,8 @@ use Rattle.theory.specs.Adjacency.{Holds, ShareCorner}
 use Rattle.theory.specs.Region.{face, shares, regions}
 use Rattle.theory.specs.StateGraph.{regionCount, locationOf, regionOf, allowedState, beside, systemOf}
 use Rattle.theory.proofs.Below.{and↔, eqb↔, ltb↔, test↔}
-use Rattle.theory.proofs.System.{start-below}
+use Rattle.theory.proofs.System.{start-below, closed-walk-law}
+use Rattle.theory.proofs.Walk.{walk-first}
 use Rattle.theory.proofs.StateGraph.{count-positive}
 use Rattle.model.specs.declared.Model.{Model}
 use Rattle.model.specs.Model.{Lawful}
@@ -23,11 +27,12 @@ use Rattle.graph.specs.Plan.{automatonOf, systemOfModel}
 use Rattle.graph.specs.States.{states}
 use Rattle.graph.proofs.Models.{system-laws, face-allowed}
 use Rattle.successors.specs.Flow.{regionsIn, FlowLists}
-use Rattle.successors.proofs.Room.{states-limit, steps-limit}
-use Rattle.region_corners.specs.Limits.{pointCount}
+use Rattle.successors.proofs.Room.{regions-limit, states-limit, steps-limit}
 use Rattle.region_corners.specs.Faces.{faceOf}
-use Rattle.survey.specs.Surveyed.{Corners, Heights}
-use Rattle.survey.proofs.Lent.{regions-are, start-short}
+use Rattle.region_corners.specs.Shapes.{Linked}
+use Rattle.search.specs.Rows.{Rows}
+use Rattle.survey.specs.Surveyed.{Heights}
+use Rattle.tables.proofs.Lent.{regions-are}
 use Rattle.survey.proofs.Start.{start-at}
 use Rattle.component.specs.Marks as component
 use Rattle.marking.specs.Tables as marking
@@ -44,16 +49,21 @@ module _ (m : Model) (ok : Lawful m) where
   unfolding systemOf
   size-states = refl
 
-  pub start-product : (r : ℕ) → r ≡ length (regions (m .clocks) (m .ceiling)) → m .start * r < 15816
+  -- the start is a state
+  start-short : (r : ℕ) → r ≡ length (regions (m .clocks) (m .ceiling)) → 0 < r → m .start * r < states m
+  start-short r e z =
+      rw (e ∙ sym (regions-are m ok)) (let y = rw (e ∙ sym (regions-are m ok)) at z in omega (arith, mul-le-mul-right (regionsIn m) (ok .start)))
+
+  pub start-product : (r : ℕ) → r ≡ length (regions (m .clocks) (m .ceiling)) → m .start * r < maxStates
   start-product r e =
       let z : 0 < r = rw (e ∙ sym (regions-are m ok)) some-regions in
-      omega (arith, start-short m ok r e z, states-limit ok)
+      omega (arith, start-short r e z, states-limit ok)
 
   same-location : (p q : ℕ) → p / regionsIn m ≡ q / regionsIn m → locationOf (automatonOf m) p ≡ locationOf (automatonOf m) q
   unfolding locationOf
   same-location p q e = e
 
-  rows-of : (first targets : List ℕ) (n : ℕ) (r : ℕ → ℕ → Bool) → Holds first targets n r → marking.Rows first targets n
+  rows-of : (first targets : List ℕ) (n : ℕ) (r : ℕ → ℕ → Bool) → Holds first targets n r → Rows first targets n
   rows-of first targets n r h =
       record {
         long = simp add-one (h .long);
@@ -81,25 +91,27 @@ module _ (m : Model) (ok : Lawful m) where
     heights-of info e M =
         record { long = e; are = M .are (systemOfModel m) (system-laws m ok) refl (F .holds) }
 
-    module _ (rows faces corner head link info : List ℕ) (C : Corners m rows faces corner head link) where
-      pub marking-shape : (flags : ℕ) → flags ≡ m .locations * pointCount → length info ≡ states m
-          → marking.Shape (states m) (regionsIn m) first targets rows faces corner head link info flags
+    module _ (shapes heights : List ℕ) (K : Linked (m .clocks) (m .ceiling) shapes) where
+      pub marking-shape : length heights ≡ states m → marking.Shape (states m) (regionsIn m) first targets shapes heights
       unfolding automatonOf regionCount
-      marking-shape flags e f =
+      marking-shape f =
           record {
-            some = some-regions;
-            states = states-limit ok;
             flow = rows-of first targets (states m) (systemOfModel m .flow) (F .holds);
-            face = rows-of rows faces (regionsIn m) (faceOf (m .clocks) (m .ceiling)) (C .face);
-            corners =
+            tables =
                 record {
+                  some = some-regions;
+                  states = states-limit ok;
                   locations = m .locations;
-                  states = refl;
-                  spots = rw (C .points) e;
-                  corner-long = C .slots .long;
-                  corner-below = λ s b. rw (C .points) (C .slots .below s b);
-                  chains = C .chains;
-                  info-long = f;
+                  whole = refl;
+                  faces =
+                      record {
+                        regions = regions-limit ok;
+                        long = K .shapes .long;
+                        face = rows-of _ _ (regionsIn m) (faceOf (m .clocks) (m .ceiling)) (K .shapes .face);
+                      };
+                  corner-below = λ s b. K .shapes .slots .below s (rw (corners-long (regionsIn m) shapes (K .shapes .long)) b);
+                  chains = K .chains;
+                  heights-long = f;
                 };
           }
 
@@ -125,23 +137,27 @@ module _ (m : Model) (ok : Lawful m) where
           (λ e. b .1 (region-below p, (region-below q, e)), λ e. b .0 e .1 .1)
 
       shares-law : (p q : ℕ) → (shares (regionOf (automatonOf m) p) (regionOf (automatonOf m) q) ≡ true)
-          ↔ ShareCorner corner (p % regionsIn m) (q % regionsIn m)
+          ↔ ShareCorner (cornersIn (regionsIn m) shapes) (p % regionsIn m) (q % regionsIn m)
       unfolding regionOf automatonOf regionCount
-      shares-law p q = C .slots .shared (p % regionsIn m) (q % regionsIn m) (region-below p) (region-below q)
+      shares-law p q = K .shapes .slots .shared (p % regionsIn m) (q % regionsIn m) (region-below p) (region-below q)
 
       parity : (h : ℕ) (b : Bool) → (2 * h + bit b) % 2 ≡ bit b
       parity h true = omega arith
       parity h false = omega arith
 
-      pub marking-tables : Heights m info
-          → marking.Tables (systemOfModel m) (m .start * regionsIn m) (regionsIn m) first targets rows faces corner info
+      odd : (h : ℕ) (b : Bool) → ((2 * h + bit b) % 2 ≡ 1) ↔ (b ≡ true)
+      odd h true = (λ _. refl, λ _. omega arith)
+      odd h false = (λ e. absurd (omega arith), λ e. absurd (omega (arith, ap bit e)))
+
+      pub marking-tables : Heights m heights
+          → marking.Tables (systemOfModel m) (m .start * regionsIn m) (regionsIn m) first targets shapes heights
       unfolding systemOf
       marking-tables H =
           record {
-            starts = start-at m ok;
+            starts = start-at m;
             flow = F .holds;
             faceOf = faceOf (m .clocks) (m .ceiling);
-            facing = C .face;
+            facing = rw (regions-are m ok) (K .shapes .face);
             face = λ p q.
                 let b = beside-law face p q in (
                   λ e. let (x, y, z, w) = b .0 e in (x, system-laws m ok .allowed-below q y, z, face-law p q .0 w),
@@ -149,30 +165,37 @@ module _ (m : Model) (ok : Lawful m) where
                       let f = face-law p q .1 w in
                       b .1 (x, face-allowed-by p q y x z f, z, f),
                 );
-            near = λ p q.
-                let b = beside-law shares p q in (
-                  λ e. let (x, y, z, w) = b .0 e in (x, y, z, shares-law p q .0 w),
-                  λ (x, y, z, w). b .1 (x, y, z, shares-law p q .1 w),
+            touch = λ p q i j.
+                let b = and↔ (beside-law shares p q) (test↔ (onClosedWalk (systemOfModel m) q)) in
+                let o = rw (← H .are q j) at (odd (height (systemOfModel m) q) (onClosedWalk (systemOfModel m) q)) in (
+                  λ e. let ((x, y, z, w), c) = b .0 e in (x, z, shares-law p q .0 w, o .1 c),
+                  λ (x, z, w, c). let v = o .0 c in b .1 ((x, closed-allowed q v, z, shares-law p q .1 w), v),
                 );
-            closed = λ p b. rw (H .are p b) (parity (height (systemOfModel m) p) (onClosedWalk (systemOfModel m) p));
           }
         where
           face-allowed-by : (p q : ℕ) → q < states m → allowed p ≡ true → p / regionsIn m ≡ q / regionsIn m
               → face (regionOf (automatonOf m) p) (regionOf (automatonOf m) q) ≡ true → allowed q ≡ true
           face-allowed-by p q y x z f = face-allowed m ok p q y x (same-location p q z) f
 
+          -- a state on a closed walk is allowed
+          closed-allowed : (q : ℕ) → onClosedWalk (systemOfModel m) q ≡ true → allowed q ≡ true
+          closed-allowed q c =
+              let (x, l, w) = closed-walk-law (systemOfModel m) (system-laws m ok) q .0 c in
+              system-laws m ok .flow-joins q x (walk-first w .0) .0
+
       module _ (r : ℕ) (e : r ≡ length (regions (m .clocks) (m .ceiling))) where
         count-is : r ≡ regionsIn m
         count-is = e ∙ sym (regions-are m ok)
 
         -- what the marking asks for
-        pub asked : (far queue : List ℕ) (flags : ℕ) → length far ≡ states m → length queue ≡ states m → length info ≡ states m
+        pub asked : (distance queue : List ℕ) (flags : ℕ) → length distance ≡ states m → length queue ≡ states m → length heights ≡ states m
             → flags ≡ m .locations * pointCount
-            → (m .start * r < length far) × (length queue ≡ length far)
-            × marking.Shape (length far) r first targets rows faces corner head link info flags
-        asked far queue flags f g h i =
-            rw (count-is, f) (start-short m ok (regionsIn m) (regions-are m ok) some-regions, g, marking-shape flags i h)
+            → (m .start * r < length distance) × (length queue ≡ length distance)
+            × marking.Shape (length distance) r first targets shapes heights × marking.Spots (length distance) r flags
+        asked distance queue flags f g h i =
+            rw (count-is, f)
+            (start-short (regionsIn m) (regions-are m ok) some-regions, g, marking-shape h, record { locations = m .locations; states = refl; spots = i })
 
         -- what it finds
-        pub tables-by : Heights m info → marking.Tables (systemOfModel m) (m .start * r) r first targets rows faces corner info
+        pub tables-by : Heights m heights → marking.Tables (systemOfModel m) (m .start * r) r first targets shapes heights
         tables-by H = rw count-is (marking-tables H)

@@ -1,2 +1,2 @@
--- The tables of a model, and what is found in them.
+-- What is found about the states of a model.
 pub mod Surveyed

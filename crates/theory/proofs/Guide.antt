@@ -1,23 +1,23 @@
--- Laws of `good` and of the passes that find it; the walk that the flags choose is `greedy`.
+-- Laws of `good`; the walk that the flags choose is `greedy`.
 use mathlib.Core.Path.{_≡_, refl, sym, ap, _∙_}
-use mathlib.Core.Bool.{Bool, true, false, cond, _&&_, true≢false}
+use mathlib.Core.Bool.{Bool, true, false, cond, _&&_}
 use mathlib.Core.Logic.{_⊎_, inl, inr}
 use mathlib.Core.List.{List, [], _∷_, _++_, append-assoc, append-nil}
 use Prim.Native.Nat.{ℕ, zero, suc, _+_, _-_, _≤_, _<_}
 use native.Mathlib.Omega.{arith}
 use native.Mathlib.Numerals.{add-one}
-use native.Mathlib.Decide.{decLt, ℕ-discrete}
+use native.Mathlib.Decide.{decLt}
 use lib.ListN.{length, length-append, take, set}
 use lib.Seq.{take-suc-set}
 use lib.Dec.{eqb, leb}
-use borrow.Author.Tests.{eqb-true, eq-eqb, ne-eqb, leb-true, le-leb}
+use borrow.Author.Tests.{eqb-true, eq-eqb, leb-true, le-leb}
 use Rattle.theory.specs.Below.{any, least}
 use Rattle.theory.specs.Walk.{Inside, exact, dist, greedy}
 use Rattle.theory.specs.Levels.{far, mark}
-use Rattle.theory.specs.Guide.{good, flagged, leads, next, Flags, Along}
-use Rattle.theory.proofs.Below.{any-intro, any-elim, any-and-intro, any-and-elim, and-intro, and-left, and-right, either, least-and, false-unless-true, bool-ext}
+use Rattle.theory.specs.Guide.{good, next, Flagged, Along}
+use Rattle.theory.proofs.Below.{any-intro, any-elim, any-and-intro, any-and-elim, and-intro, and-left, and-right, either, least-and, bool-ext}
 use Rattle.theory.proofs.Walk.{walk-append, exact-walk, dist-min, dist-exact}
-use Rattle.theory.proofs.Levels.{far-walk, far-start, far-step, mark-in, mark-out, mark-is}
+use Rattle.theory.proofs.Levels.{far-walk, far-start, far-step, mark-in, mark-out}
 
 -- ---- tests that agree below the bound
 
@@ -40,23 +40,19 @@ mark-le S r a p = by (decLt (far S r a p) S)
     by (yes h) = omega (arith, mark-in S r a p h)
     by (no h) = let z : S ≤ far S r a p = omega arith in omega (arith, mark-out S r a p z)
 
--- ---- what a pass makes of a node
+-- ---- on a shortest walk, by the distance
 
-pub pass-in : (flag x : ℕ) (test : ℕ → Bool) (f : ℕ → ℕ) (p : ℕ) → f p ≡ x → test p ≡ true → flagged flag x test f p ≡ f p + flag
-unfolding flagged
-pass-in flag x test f p e t = rw (eq-eqb (f p) x e, t)
+module _ (S : ℕ) (r : ℕ → ℕ → Bool) (goal : ℕ → Bool) (a p : ℕ) where
+  pub good-le : good S r goal a p ≡ true → far S r a p ≤ dist S r goal a
+  unfolding good
+  good-le g =
+      leb-true (far S r a p) (dist S r goal a)
+      (and-left (leb (far S r a p) (dist S r goal a)) (exact S r goal (dist S r goal a - far S r a p) p) g)
 
-pub pass-off : (flag x : ℕ) (test : ℕ → Bool) (f : ℕ → ℕ) (p : ℕ) → (f p ≡ x → ⊥) → flagged flag x test f p ≡ f p
-unfolding flagged
-pass-off flag x test f p e = rw (ne-eqb (f p) x e)
-
-pub pass-not : (flag x : ℕ) (test : ℕ → Bool) (f : ℕ → ℕ) (p : ℕ) → test p ≡ false → flagged flag x test f p ≡ f p
-unfolding flagged
-pass-not flag x test f p t = rw t (by (eqb (f p) x))
-  where
-    by : (b : Bool) → cond (b && false) (f p + flag) (f p) ≡ f p
-    by true = refl
-    by false = refl
+  -- at the last level: just the goals
+  pub good-last : far S r a p ≡ dist S r goal a → good S r goal a p ≡ goal p
+  unfolding good exact
+  good-last e = let z : dist S r goal a - far S r a p ≡ 0 = omega arith in rw (z, le-leb (far S r a p) (dist S r goal a) (omega arith))
 
 module _ (S : ℕ) (r : ℕ → ℕ → Bool) (inside : Inside S r) (goal : ℕ → Bool) (a : ℕ) (al : a < S) where
   -- ---- on a shortest walk
@@ -100,10 +96,6 @@ module _ (S : ℕ) (r : ℕ → ℕ → Bool) (inside : Inside S r) (goal : ℕ 
   unfolding exact
   exact-more k p q e x = any-and-intro S (r p) (exact S r goal k) q (inside p q e .1) e x
 
-  exact-zero : (p : ℕ) → exact S r goal 0 p ≡ goal p
-  unfolding exact
-  exact-zero p = refl
-
   pub good-next : (p : ℕ) → far S r a p < S → good S r goal a p ≡ true → far S r a p < dist S r goal a
       → (q : ℕ) × (q < S) × (r p q ≡ true) × (far S r a q ≡ far S r a p + 1) × (good S r goal a q ≡ true)
   good-next p h g l =
@@ -115,12 +107,6 @@ module _ (S : ℕ) (r : ℕ → ℕ → Bool) (inside : Inside S r) (goal : ℕ 
 
   pub good-back : (p q : ℕ) → r p q ≡ true → far S r a q ≡ far S r a p + 1 → good S r goal a q ≡ true → good S r goal a p ≡ true
   good-back p q e f g = let (k, h, x) = good-elim q g in good-intro p (suc k) (omega arith) (exact-more k p q e x)
-
-  good-last : (p : ℕ) → good S r goal a p ≡ true → dist S r goal a ≤ far S r a p → (far S r a p ≡ dist S r goal a) × (goal p ≡ true)
-  good-last p g l =
-      let (k, e, x) = good-elim p g in
-      let c : k ≡ 0 = omega arith in
-      (omega arith, sym (exact-zero p) ∙ (rw c at x))
 
   pub good-start : dist S r goal a < S → good S r goal a a ≡ true
   good-start h = good-intro a (dist S r goal a) (omega (arith, far-start S r inside a al)) (dist-exact S r goal inside a h)
@@ -134,139 +120,60 @@ module _ (S : ℕ) (r : ℕ → ℕ → Bool) (inside : Inside S r) (goal : ℕ 
   unfolding greedy
   greedy-next k p q e = rw e
 
-  -- ---- the passes
+  -- ---- the walk that the flags choose
 
-  module _ (flag : ℕ) (wide : S < flag) (short : dist S r goal a < S) where
-    -- the last level
-    pub flags-first : (f g : ℕ → ℕ) → ((p : ℕ) → p < S → f p ≡ mark S r a p) → ((p : ℕ) → p < S → g p ≡ flagged flag (dist S r goal a + 1) goal f p)
-        → Flags S flag r goal a (dist S r goal a) g
-    flags-first f g m t = record {
-      done = λ p b l o.
-          let (e, k) = good-last p o l in
-          let h = m p b ∙ mark-in S r a p (omega arith) in
-          let x : f p ≡ dist S r goal a + 1 = omega arith in
-          omega (arith, t p b ∙ pass-in flag (dist S r goal a + 1) goal f p x k);
-      wait = λ p b l.
-          let h = m p b ∙ mark-in S r a p (omega arith) in
-          t p b ∙ (pass-off flag (dist S r goal a + 1) goal f p (λ z. omega arith) ∙ m p b);
-      none = λ p b o. t p b ∙ (by p b o (either (goal p)) (ℕ-discrete (f p) (dist S r goal a + 1)) ∙ m p b);
-    }
+  module _ (short : dist S r goal a < S) (flag : ℕ) (f : ℕ → ℕ) (F : Flagged S flag r goal a f) where
+    -- the nodes with the flag at distance d
+    pub flags-at : (p d : ℕ) → p < S → f p ≡ d + 1 + flag → (far S r a p ≡ d) × (good S r goal a p ≡ true)
+    flags-at p d b e = by (either (good S r goal a p))
       where
-        by : (p : ℕ) → p < S → good S r goal a p ≡ false → (goal p ≡ true) ⊎ (goal p ≡ false) → Dec (f p ≡ dist S r goal a + 1) → flagged flag
-            (dist S r goal a + 1) goal f p ≡ f p
-        by p b o (inr k) _ = pass-not flag (dist S r goal a + 1) goal f p k
-        by p b o (inl k) (no z) = pass-off flag (dist S r goal a + 1) goal f p z
-        by p b o (inl k) (yes z) =
-            let e = mark-is S r a p (dist S r goal a) (sym (m p b) ∙ z) in
-            absurd (true≢false (sym (good-intro p 0 (omega arith) (exact-zero p ∙ k)) ∙ o))
+        by : (good S r goal a p ≡ true) ⊎ (good S r goal a p ≡ false) → (far S r a p ≡ d) × (good S r goal a p ≡ true)
+        by (inl g) = (omega (arith, F .done p b g), g)
+        by (inr g) = absurd (omega (arith, F .none p b g))
 
-    module _ (j : ℕ) (f : ℕ → ℕ) (F : Flags S flag r goal a j f) where
-      -- the nodes with the flag at distance d
-      pub flags-at : (p d : ℕ) → p < S → f p ≡ d + 1 + flag → (far S r a p ≡ d) × (good S r goal a p ≡ true)
-      flags-at p d b e = by (either (good S r goal a p)) (decLt (far S r a p) j)
-        where
-          by : (good S r goal a p ≡ true) ⊎ (good S r goal a p ≡ false) → Dec (far S r a p < j) → (far S r a p ≡ d) × (good S r goal a p ≡ true)
-          by (inl g) (no l) = let z : j ≤ far S r a p = omega arith in (omega (arith, F .done p b z g), g)
-          by (inl g) (yes l) = absurd (omega (arith, F .wait p b l, mark-le S r a p))
-          by (inr g) _ = absurd (omega (arith, F .none p b g, mark-le S r a p))
-
-      -- the nodes without
-      flags-off : (p d : ℕ) → p < S → f p ≡ d + 1 → d < S → (far S r a p ≡ d) × (far S r a p < S)
-      flags-off p d b e l = by (either (good S r goal a p)) (decLt (far S r a p) j)
-        where
-          by : (good S r goal a p ≡ true) ⊎ (good S r goal a p ≡ false) → Dec (far S r a p < j) → (far S r a p ≡ d) × (far S r a p < S)
-          by (inl g) (no k) = let z : j ≤ far S r a p = omega arith in absurd (omega (arith, F .done p b z g))
-          by (inl g) (yes k) = mark-is S r a p d (sym (F .wait p b k) ∙ e)
-          by (inr g) _ = mark-is S r a p d (sym (F .none p b g) ∙ e)
-
-      -- where the next level has its flags, a good node is one that leads to one of these
-      leads-good : (p : ℕ) → j ≤ far S r a p + 1 → far S r a p < S → leads S r (far S r a p + 1 + 1 + flag) f p ≡ true → good S r goal a p ≡ true
-      unfolding leads
-      leads-good p c h e =
-          let (q, b, x, t) = any-and-elim S (λ q. eqb (f q) (far S r a p + 1 + 1 + flag)) (r p) e in
-          let (u, g) = flags-at q (far S r a p + 1) b (eqb-true (f q) (far S r a p + 1 + 1 + flag) x) in
-          good-back p q t u g
-
-      good-leads : (p : ℕ) → j ≤ far S r a p + 1 → far S r a p < dist S r goal a → good S r goal a p ≡ true → leads S r
-          (far S r a p + 1 + 1 + flag) f p ≡ true
-      unfolding leads
-      good-leads p c h g =
-          let (q, b, t, u, o) = good-next p (omega arith) g h in
-          let v : f q ≡ far S r a p + 1 + 1 + flag = omega (arith, F .done q b (omega arith) o) in
-          any-and-intro S (λ q. eqb (f q) (far S r a p + 1 + 1 + flag)) (r p) q b (eq-eqb (f q) (far S r a p + 1 + 1 + flag) v) t
-
-    -- one level more
-    pub flags-next : (j : ℕ) (f g : ℕ → ℕ) → j < dist S r goal a → Flags S flag r goal a (j + 1) f
-        → ((p : ℕ) → p < S → g p ≡ flagged flag (j + 1) (leads S r (j + 1 + 1 + flag) f) f p) → Flags S flag r goal a j g
-    flags-next j f g l F t = record {
-      done = λ p b h o. t p b ∙ done p b h o (ℕ-discrete (far S r a p) j);
-      wait = λ p b h. let k = F .wait p b (omega arith) ∙ mark-in S r a p (omega arith) in
-          t p b ∙ (pass-off flag (j + 1) (leads S r (j + 1 + 1 + flag) f) f p (λ z. omega arith) ∙ F .wait p b (omega arith));
-      none = λ p b o. t p b ∙ (none p b o (ℕ-discrete (f p) (j + 1)) ∙ F .none p b o);
-    }
+    pub next-is : (p k : ℕ) → far S r a p + suc k ≡ dist S r goal a → next S r (far S r a p + 1 + 1 + flag) f p ≡ least S
+        (λ q. r p q && exact S r goal k q)
+    unfolding next
+    next-is p k e =
+        least-same S (λ q. eqb (f q) (far S r a p + 1 + 1 + flag) && r p q) (λ q. r p q && exact S r goal k q)
+        (λ q b. bool-ext (eqb (f q) (far S r a p + 1 + 1 + flag) && r p q) (r p q && exact S r goal k q) (there q b) (back q b))
       where
-        done : (p : ℕ) → p < S → j ≤ far S r a p → good S r goal a p ≡ true → Dec (far S r a p ≡ j) → flagged flag (j + 1)
-            (leads S r (j + 1 + 1 + flag) f) f p ≡ far S r a p + 1 + flag
-        done p b h o (yes e) =
-            let k = F .wait p b (omega arith) ∙ mark-in S r a p (omega arith) in
-            let v = good-leads (j + 1) f F p (omega arith) (omega arith) o in
-            let x : f p ≡ j + 1 = omega arith in
-            omega (arith, pass-in flag (j + 1) (leads S r (j + 1 + 1 + flag) f) f p x (rw e at v))
-        done p b h o (no e) = let k = F .done p b (omega arith) o in pass-off flag (j + 1) (leads S r (j + 1 + 1 + flag) f) f p (λ z. omega arith) ∙ k
+        there : (q : ℕ) → q < S → (eqb (f q) (far S r a p + 1 + 1 + flag) && r p q) ≡ true → (r p q && exact S r goal k q) ≡ true
+        there q b x =
+            let (u, g) = flags-at q (far S r a p + 1) b
+            (eqb-true (f q) (far S r a p + 1 + 1 + flag) (and-left (eqb (f q) (far S r a p + 1 + 1 + flag)) (r p q) x)) in
+            let (n, h, y) = good-elim q g in
+            let c : n ≡ k = omega arith in
+            and-intro (r p q) (exact S r goal k q) (and-right (eqb (f q) (far S r a p + 1 + 1 + flag)) (r p q) x) (rw c at y)
 
-        none : (p : ℕ) → p < S → good S r goal a p ≡ false → Dec (f p ≡ j + 1) → flagged flag (j + 1) (leads S r (j + 1 + 1 + flag) f) f p ≡ f p
-        none p b o (no z) = pass-off flag (j + 1) (leads S r (j + 1 + 1 + flag) f) f p z
-        none p b o (yes z) =
-            let (e, h) = flags-off (j + 1) f F p j b z (omega arith) in
-            pass-not flag (j + 1) (leads S r (j + 1 + 1 + flag) f) f p (false-unless-true (leads S r (j + 1 + 1 + flag) f p)
-            (λ v. true≢false (sym (leads-good (j + 1) f F p (omega arith) h (rw e v)) ∙ o)))
+        back : (q : ℕ) → q < S → (r p q && exact S r goal k q) ≡ true → (eqb (f q) (far S r a p + 1 + 1 + flag) && r p q) ≡ true
+        back q b x =
+            let t = and-left (r p q) (exact S r goal k q) x in
+            let y = and-right (r p q) (exact S r goal k q) x in
+            let u = far-next p q k (omega arith) e t y in
+            let v : f q ≡ far S r a p + 1 + 1 + flag = omega (arith, F .done q b (good-intro q k (omega arith) y)) in
+            and-intro (eqb (f q) (far S r a p + 1 + 1 + flag)) (r p q) (eq-eqb (f q) (far S r a p + 1 + 1 + flag) v) t
 
-    -- ---- the walk that the flags choose
-
-    module _ (f : ℕ → ℕ) (F : Flags S flag r goal a 0 f) where
-      pub next-is : (p k : ℕ) → far S r a p + suc k ≡ dist S r goal a → next S r (far S r a p + 1 + 1 + flag) f p ≡ least S
-          (λ q. r p q && exact S r goal k q)
-      unfolding next
-      next-is p k e =
-          least-same S (λ q. eqb (f q) (far S r a p + 1 + 1 + flag) && r p q) (λ q. r p q && exact S r goal k q)
-          (λ q b. bool-ext (eqb (f q) (far S r a p + 1 + 1 + flag) && r p q) (r p q && exact S r goal k q) (there q b) (back q b))
-        where
-          there : (q : ℕ) → q < S → (eqb (f q) (far S r a p + 1 + 1 + flag) && r p q) ≡ true → (r p q && exact S r goal k q) ≡ true
-          there q b x =
-              let (u, g) = flags-at 0 f F q (far S r a p + 1) b
-              (eqb-true (f q) (far S r a p + 1 + 1 + flag) (and-left (eqb (f q) (far S r a p + 1 + 1 + flag)) (r p q) x)) in
-              let (n, h, y) = good-elim q g in
-              let c : n ≡ k = omega arith in
-              and-intro (r p q) (exact S r goal k q) (and-right (eqb (f q) (far S r a p + 1 + 1 + flag)) (r p q) x) (rw c at y)
-
-          back : (q : ℕ) → q < S → (r p q && exact S r goal k q) ≡ true → (eqb (f q) (far S r a p + 1 + 1 + flag) && r p q) ≡ true
-          back q b x =
-              let t = and-left (r p q) (exact S r goal k q) x in
-              let y = and-right (r p q) (exact S r goal k q) x in
-              let u = far-next p q k (omega arith) e t y in
-              let v : f q ≡ far S r a p + 1 + 1 + flag = omega (arith, F .done q b (omega arith) (good-intro q k (omega arith) y)) in
-              and-intro (eqb (f q) (far S r a p + 1 + 1 + flag)) (r p q) (eq-eqb (f q) (far S r a p + 1 + 1 + flag) v) t
-
-      -- a node of the walk, and the walk so far
-      pub along-step : (K i p q : ℕ) (l l′ : List ℕ) → K ≡ dist S r goal a → Along S r goal a K l i p → i < K → i < length l
-          → q ≡ next S r (i + 1 + 1 + flag) f p → l′ ≡ set l i q → Along S r goal a K l′ (i + 1) q
-      along-step K i p q l l′ c A h b n m =
-          let k = K - (i + 1) in
-          let ek : K - i ≡ suc k = omega arith in
-          let tk : take (i + 1) l′ ≡ take i l ++ (q ∷ []) = rw (m, add-one i) (take-suc-set l i q b) in
-          let z = A .level in
-          let w : q ≡ least S (λ q. r p q && exact S r goal k q) =
-          n ∙ (ap (λ (i : ℕ). next S r (i + 1 + 1 + flag) f p) (sym z) ∙ next-is p k (omega arith)) in
-          let (qb, t, x) = least-next k p q w (rw ek at (A .left)) in
-          record {
-            many = omega arith;
-            node = qb;
-            level = far-next p q k (omega arith) (omega arith) t x ∙ ap (λ (i : ℕ). i + 1) z;
-            left = x;
-            whole =
-                rw (tk, append-assoc)
-                (ap (λ (m : List ℕ). take i l ++ m) (sym (greedy-next k p q w)) ∙ (rw ek at (A .whole)));
-          }
+    -- a node of the walk, and the walk so far
+    pub along-step : (K i p q : ℕ) (l l′ : List ℕ) → K ≡ dist S r goal a → Along S r goal a K l i p → i < K → i < length l
+        → q ≡ next S r (i + 1 + 1 + flag) f p → l′ ≡ set l i q → Along S r goal a K l′ (i + 1) q
+    along-step K i p q l l′ c A h b n m =
+        let k = K - (i + 1) in
+        let ek : K - i ≡ suc k = omega arith in
+        let tk : take (i + 1) l′ ≡ take i l ++ (q ∷ []) = rw (m, add-one i) (take-suc-set l i q b) in
+        let z = A .level in
+        let w : q ≡ least S (λ q. r p q && exact S r goal k q) =
+        n ∙ (ap (λ (i : ℕ). next S r (i + 1 + 1 + flag) f p) (sym z) ∙ next-is p k (omega arith)) in
+        let (qb, t, x) = least-next k p q w (rw ek at (A .left)) in
+        record {
+          many = omega arith;
+          node = qb;
+          level = far-next p q k (omega arith) (omega arith) t x ∙ ap (λ (i : ℕ). i + 1) z;
+          left = x;
+          whole =
+              rw (tk, append-assoc)
+              (ap (λ (m : List ℕ). take i l ++ m) (sym (greedy-next k p q w)) ∙ (rw ek at (A .whole)));
+        }
 
   pub along-first : (K : ℕ) (l : List ℕ) → K ≡ dist S r goal a → K < S → Along S r goal a K l 0 a
   along-first K l e h =

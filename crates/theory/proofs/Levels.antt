@@ -169,12 +169,12 @@ module _ (S : ℕ) (r : ℕ → ℕ → Bool) (inside : Inside S r) (a : ℕ) (a
   -- ---- the fewest steps into a goal, from the distances
 
   module _ (goal : ℕ → Bool) where
-    goal-far : (p : ℕ) → far S r a p < S → goal p ≡ true → dist S r goal a ≤ far S r a p
+    pub goal-far : (p : ℕ) → far S r a p < S → goal p ≡ true → dist S r goal a ≤ far S r a p
     goal-far p h g =
         let (l, w, k) = far-walk p h in
         omega (arith, dist-min S r goal inside a (length l) (record { path = l; end = p; walk = w; ends = g; size = refl }) al)
 
-    far-goal : dist S r goal a < S → (p : ℕ) × (goal p ≡ true) × (far S r a p ≡ dist S r goal a)
+    pub far-goal : dist S r goal a < S → (p : ℕ) × (goal p ≡ true) × (far S r a p ≡ dist S r goal a)
     far-goal h =
         let w = exact-walk S r goal inside (dist S r goal a) a (dist-exact S r goal inside a h) in
         let u = far-min (w .end) (w .path) (w .walk) in

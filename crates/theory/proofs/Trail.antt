@@ -3,13 +3,16 @@ use mathlib.Core.Path.{_≡_, refl}
 use mathlib.Core.List.{List}
 use Prim.Native.Nat.{ℕ, _≤_, _<_}
 use lib.ListN.{length}
+use lib.Dec.{ltb}
+use borrow.Author.Tests.{ltb-true, lt-ltb}
 use Rattle.theory.specs.Walk.{Into, Lex}
 use Rattle.theory.specs.System.{System, Laws}
-use Rattle.theory.specs.Marked.{begin, Unsafe, step}
+use Rattle.theory.specs.Marked.{begin, Unsafe, unsafe, step}
 use Rattle.theory.specs.Trail.{Trail, trailSteps, trailStates}
-use Rattle.theory.proofs.Walk.{dist-min, dist-below, dist-exact, greedy-walk, greedy-length, greedy-least}
+use Rattle.theory.proofs.Below.{bool-ext}
+use Rattle.theory.proofs.Walk.{dist-min, dist-below, dist-exact, exact-walk, greedy-walk, greedy-length, greedy-least}
 use Rattle.theory.proofs.System.{start-below}
-use Rattle.theory.proofs.Marked.{step-inside, marked-on, marked-walk}
+use Rattle.theory.proofs.Marked.{step-inside, marked-on, marked-walk, unsafe-is, is-unsafe}
 
 module _ (Y : System) (L : Laws Y) where
   pub trail-unsafe : (l : List ℕ) → Trail Y l → Unsafe Y
@@ -44,3 +47,18 @@ module _ (Y : System) (L : Laws Y) where
     pub trail-least : length l ≡ trailSteps Y → Lex (trailStates Y) l
     unfolding trailStates
     trail-least e = rw (← e) (greedy-least (Y .size) (step Y) (Y .forbidden) (step-inside Y L) (t .1) (t .2))
+
+module _ (Y : System) (L : Laws Y) where
+  steps-unsafe : trailSteps Y < Y .size → Unsafe Y
+  unfolding trailSteps
+  steps-unsafe b =
+      let v = exact-walk (Y .size) (step Y) (Y .forbidden) (step-inside Y L) (trailSteps Y) (Y .start)
+      (dist-exact (Y .size) (step Y) (Y .forbidden) (step-inside Y L) (Y .start) b) in
+      trail-unsafe Y L (v .path) (v .end, v .walk, v .ends)
+
+  -- our trail has fewer steps than there are states, or there is none
+  pub steps-verdict : unsafe Y ≡ ltb (trailSteps Y) (Y .size)
+  steps-verdict =
+      bool-ext (unsafe Y) (ltb (trailSteps Y) (Y .size))
+      (λ u. let (l, t) = unsafe-trail Y L (unsafe-is Y L u) in lt-ltb _ _ (trail-steps-below Y L l t))
+      (λ t. is-unsafe Y L (steps-unsafe (ltb-true _ _ t)))

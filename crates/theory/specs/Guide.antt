@@ -1,37 +1,28 @@
--- The least of the shortest walks from a node into a goal, by distances: passes from the last level down find the nodes of the shortest walks
+-- The least of the shortest walks from a node into a goal, by distances: a pass from the last level down finds the nodes of the shortest walks
 -- (`good`), and each step takes the least of these at the next level. A node at distance d keeps d + 1, and d + 1 + flag where it is good; flag is
 -- more than any distance.
 use mathlib.Core.Path.{_≡_}
-use mathlib.Core.Bool.{Bool, true, false, cond, _&&_}
+use mathlib.Core.Bool.{Bool, true, false, _&&_}
 use mathlib.Core.List.{List, _++_}
 use Prim.Native.Nat.{ℕ, _+_, _-_, _≤_, _<_}
 use lib.ListN.{take}
 use lib.Dec.{eqb, leb}
-use Rattle.theory.specs.Below.{any, least}
+use Rattle.theory.specs.Below.{least}
 use Rattle.theory.specs.Walk.{exact, dist, greedy}
-use Rattle.theory.specs.Levels.{far, mark}
+use Rattle.theory.specs.Levels.{far}
 
 -- p lies on a shortest walk from a into a goal
 unfoldable pub good : ℕ → (ℕ → ℕ → Bool) → (ℕ → Bool) → ℕ → ℕ → Bool
 good S r goal a p = let K = dist S r goal a in let d = far S r a p in leb d K && exact S r goal (K - d) p
 
--- what a pass makes of a node: the flag, where it is at x and passes the test
-unfoldable pub flagged : ℕ → ℕ → (ℕ → Bool) → (ℕ → ℕ) → ℕ → ℕ
-flagged flag x test f p = cond (eqb (f p) x && test p) (f p + flag) (f p)
-
--- an edge leads from p to a node at y
-unfoldable pub leads : ℕ → (ℕ → ℕ → Bool) → ℕ → (ℕ → ℕ) → ℕ → Bool
-leads S r y f p = any S (λ q. eqb (f q) y && r p q)
-
 -- the least node at y that an edge leads to from p, or S
 unfoldable pub next : ℕ → (ℕ → ℕ → Bool) → ℕ → (ℕ → ℕ) → ℕ → ℕ
 next S r y f p = least S (λ q. eqb (f q) y && r p q)
 
--- the good nodes at distance j and more have the flag
-pub record Flags (S flag : ℕ) (r : ℕ → ℕ → Bool) (goal : ℕ → Bool) (a j : ℕ) (f : ℕ → ℕ) : Type 0 where
-  pub done : (p : ℕ) → p < S → j ≤ far S r a p → good S r goal a p ≡ true → f p ≡ far S r a p + 1 + flag
-  pub wait : (p : ℕ) → p < S → far S r a p < j → f p ≡ mark S r a p
-  pub none : (p : ℕ) → p < S → good S r goal a p ≡ false → f p ≡ mark S r a p
+-- the good nodes have the flag, the others have not
+pub record Flagged (S flag : ℕ) (r : ℕ → ℕ → Bool) (goal : ℕ → Bool) (a : ℕ) (f : ℕ → ℕ) : Type 0 where
+  pub done : (p : ℕ) → p < S → good S r goal a p ≡ true → f p ≡ far S r a p + 1 + flag
+  pub none : (p : ℕ) → p < S → good S r goal a p ≡ false → f p < flag
 
 -- after i of the K steps of the least shortest walk, at p, with the nodes so far in l
 pub record Along (S : ℕ) (r : ℕ → ℕ → Bool) (goal : ℕ → Bool) (a K : ℕ) (l : List ℕ) (i p : ℕ) : Type 0 where

@@ -10,6 +10,7 @@ use Rattle.theory.specs.Lists.{from}
 use Rattle.theory.specs.Labels.{opens, leads, leastLabel}
 use Rattle.theory.specs.StateGraph.{timeFrom, jumpFrom, stepFrom, systemOf, labelledOf}
 use Rattle.theory.proofs.Below.{least-le, least-is, least-none}
+use Rattle.limits.specs.Limits.{maxEdges}
 use Rattle.model.specs.declared.Model.{Model}
 use Rattle.model.specs.Model.{Lawful}
 use Rattle.graph.specs.Plan.{edgeOf, automatonOf, labelledOfModel}
@@ -79,6 +80,6 @@ module _ (m : Model) where
         let k : labelledOfModel m .labels ≡ x = omega (arith, labels-are) in
         sym (least-none (labelledOfModel m .labels) (λ x. leads (labelledOfModel m) x p q) (λ j l. h j (omega arith)) ∙ k)
 
-    pub least-few : Lawful m → leastLabel (labelledOfModel m) p q ≤ 25
+    pub least-few : Lawful m → leastLabel (labelledOfModel m) p q ≤ maxEdges + 1
     unfolding leastLabel
     least-few ok = omega (arith, least-le (labelledOfModel m .labels) (λ x. leads (labelledOfModel m) x p q), labels-are, ok .edges)

@@ -1,12 +1,12 @@
 // Labels, walks and regions as numbers into a lent output; each answers the offset after it.
 
-ghost use mathlib.Core.Path.{_≡_};
 ghost use Prim.Native.Nat.{ℕ, _+_, _<_, _≤_};
 ghost use mathlib.Core.List.{[], _∷_};
 ghost use lib.ListN.{length, getD, take};
 ghost use Rattle.theory.specs.Enumeration.{key};
 ghost use Rattle.theory.specs.Labels.{labelsAlong};
 ghost use Rattle.theory.specs.StateGraph.{regionOf};
+ghost use Rattle.limits.specs.Limits.{maxEdges};
 ghost use Rattle.number.specs.Number.{spellAll};
 ghost use Rattle.region.specs.Limits.{Clocks};
 ghost use Rattle.model.specs.Model.{Lawful};
@@ -15,17 +15,13 @@ ghost use Rattle.graph.specs.States.{Listed, states};
 ghost use Rattle.replay.specs.Spelling.{labelNumbers, walkNumbers};
 ghost use Rattle.spelling.specs.Lays.{Lays, mostBytes};
 use crate::label::least_label;
+use limits::Word;
+use limits::cast::from_word;
 use model::Model;
-
-fn wide(x: u16) -> usize
-    ensures { λ r. ⌜ r ≡ x ⌝ }
-{
-    x as usize
-}
 
 // "0 time; 1 jump, edge number"
 pub fn put_label(out: &mut [u8], at: usize, x: u32) -> usize
-    requires { ⌜ (x ≤ 25) × (at + length (spellAll (labelNumbers x)) ≤ mostBytes) ⌝ }
+    requires { ⌜ (x ≤ maxEdges + 1) × (at + length (spellAll (labelNumbers x)) ≤ mostBytes) ⌝ }
     ensures { λ r. ⌜ Lays (now (out .entry)) (now (out .exit)) at r (spellAll (labelNumbers x)) ⌝ }
 {
     if x == 0 {
@@ -36,7 +32,14 @@ pub fn put_label(out: &mut [u8], at: usize, x: u32) -> usize
 }
 
 // The steps from q through the states of a walk, each by its least label.
-pub fn put_walk(m: Model, table: &[u32], q: usize, walk: &[u16], out: &mut [u8], at: usize) -> usize
+pub fn put_walk(
+    m: Model,
+    table: &[u32],
+    q: usize,
+    walk: &[Word],
+    out: &mut [u8],
+    at: usize,
+) -> usize
     requires { ⌜
         Lawful m × Listed m (now table) × (q < states m) × ((i : ℕ) → i < length (now walk) → getD (now walk) i 0 < states m)
         × (at + length (spellAll (walkNumbers (labelsAlong (labelledOfModel m) q (now walk)))) ≤ mostBytes)
@@ -49,7 +52,7 @@ pub fn put_walk(m: Model, table: &[u32], q: usize, walk: &[u16], out: &mut [u8],
     let mut end = at;
     let mut i = 0;
     while i < walk.len() {
-        let s = wide(walk[i]);
+        let s = from_word(walk[i]);
         end = put_label(out, end, least_label(m, table, p, s));
         p = s;
         i += 1;

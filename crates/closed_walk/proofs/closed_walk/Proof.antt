@@ -1,12 +1,11 @@
--- `closed_walk::closed_walk` meets its contract: the search, the flags and the walk along them, by the relation that the lists hold.
-use Prim.Native.Nat.{_<_}
+-- `closed_walk::closed_walk` meets its contract: the search, the flags and the walk along them, by the relation cut down to the nodes.
 use mathlib.Core.Path.{sym, _∙_}
-use borrow.Author.Needs.{needs}
 use native.Mathlib.Omega.{arith}
-use Rattle.closed_walk.specs.Graph.{nodes, edge}
-use Rattle.closed_walk.proofs.Graph.{rows-nodes, rows-at, edge-inside, closes-rows}
-use Rattle.closed_walk.proofs.Levels.{outcome-none, outcome-found, last-place, last-below, last-level, found-first}
-use Rattle.closed_walk.proofs.Closing.{closes-found, closes-none}
+use lib.ListN.{length}
+use borrow.Author.Needs.{needs}
+use Rattle.closed_walk.proofs.Inside.{cut, cut-agrees, closes-cut}
+use Rattle.closed_walk.proofs.Back.{outcome-none, outcome-found, last-place, last-below, last-level, last-some, last-few}
+use Rattle.closed_walk.proofs.Closing.{closes-none, walk-closes}
 use Rattle.closed_walk.proofs.closed_walk.Statement.{statement}
 use Rattle.closed_walk.proofs.closed_walk.Tie as tie
 
@@ -16,46 +15,47 @@ closed-walk-spec =
     (tie.spec
     (λ c κs.
     let p = c .before .before .before .before .before .before .before .pre in
-    let z = rows-nodes (p .2) in
-    (omega arith, omega (arith, p .1), rows-at (p .2), sym z, p .3 ∙ sym z))
-    (λ c. c .before .before .before .before .before .search .kept .1 .1 .1 .0)
-    (λ c. c .before .before .before .before .before .search .kept .1 .1 .1 .1 .0)
+    (p .0, p .1, p .2, p .3))
+    (λ c. c .before .before .before .before .before .levels .kept .1 .1 .1 .0)
+    (λ c. c .before .before .before .before .before .levels .kept .1 .1 .1 .1 .0)
     (λ c.
-    let a = c .before .before .before .before .before .before .before .before .before .before .before .before .before .args in
     let p = c .before .before .before .before .before .before .before .before .before .before .before .before .before .pre in
-    let r = edge-inside (a .first .now) (a .targets .now) (rows-at (p .2)) in
-    let b : a .q < nodes (a .first .now) = omega (arith, rows-nodes (p .2)) in
-    closes-rows (p .2) (p .0)
-    (closes-none (nodes (a .first .now)) (edge (a .first .now) (a .targets .now)) r (a .q) b (outcome-none (c .before .before .before .before .before .search .ensures) (c .if1 .taken))))
+    let a = c .before .before .before .before .before .before .before .before .before .before .before .before .before .args in
+    let k = c .before .before .before .before .before .levels .kept .1 .1 .1 .0 in
+    λ e H. closes-cut H (p .0) (closes-none (length (a .level .now)) (cut (length (a .level .now)) e) (cut-agrees H (p .0) .inside) (a .q) (rw k at (outcome-none (c .before .before .before .before .before .levels .ensures) (c .if1 .taken) (cut (length (a .level .now)) e) (rw k (cut-agrees H (p .0)))))))
     (λ c. search needs)
     (λ c.
-    let F = outcome-found (c .before .before .before .before .before .search .ensures) (c .if1 .left) in
-    omega (arith, last-place F, F .fits .same, F .fits .limit))
-    (λ c. last-place (outcome-found (c .before .before .before .before .before .before .search .ensures) (c .before .if1 .left)))
+    let F = outcome-found (c .before .before .before .before .before .levels .ensures) (c .if1 .left) in
+    omega (arith, last-place F, F .order .fits .same, F .order .fits .limit))
+    (λ c.
+    let F = outcome-found (c .before .before .before .before .before .before .levels .ensures) (c .before .if1 .left) in
+    omega (arith, last-place F, F .order .fits .same, F .order .fits .limit))
     (λ c κs. search needs)
     (λ c.
-    let F = outcome-found (c .before .before .before .before .before .before .before .search .ensures) (c .before .before .if1 .left) in
-    omega (arith, last-below F (c .wide .ensures), F .fits .long, F .fits .limit))
-    (λ c. last-below (outcome-found (c .before .before .before .before .before .before .before .before .search .ensures) (c .before .before .before .if1 .left)) (c .before .wide .ensures))
+    let F = outcome-found (c .before .before .before .before .before .before .before .levels .ensures) (c .before .before .if1 .left) in
+    omega (arith, last-below F (c .from-word .ensures), F .order .fits .limit))
+    (λ c.
+    let F = outcome-found (c .before .before .before .before .before .before .before .before .levels .ensures) (c .before .before .before .if1 .left) in
+    omega (arith, last-below F (c .before .from-word .ensures), F .order .fits .limit))
     (λ c κs. search needs)
     (λ c κs.
-    let F = outcome-found (c .before .before .before .before .before .before .before .before .before .before .before .search .ensures) (c .before .before .before .before .before .before .if1 .left) in
-    (rows-at (c .before .before .before .before .before .before .before .before .before .before .before .before .before .before .before .before .before .before .before .pre .2), last-level (found-first F) (c .before .before .before .before .wide .ensures) (c .before .before .wide2 .ensures), found-first F))
+    let F = outcome-found (c .before .before .before .before .before .before .before .before .before .before .before .levels .ensures) (c .before .before .before .before .before .before .if1 .left) in
+    let k = c .before .before .before .before .before .before .before .before .before .before .before .levels .kept .1 .1 .1 .0 in
+    let y = last-level F (c .before .before .before .before .from-word .ensures) (c .before .before .from-word2 .ensures) in
+    (omega (arith, last-few F (c .before .before .before .before .from-word .ensures) (c .before .before .from-word2 .ensures), F .order .fits .limit), rw y (F .most), F .order, rw k (c .before .before .before .before .before .before .before .before .before .before .before .before .before .before .before .before .before .before .before .pre .2)))
     (λ c κs.
+    let F = outcome-found (c .before .before .before .before .before .before .before .before .before .before .before .before .before .before .before .before .levels .ensures) (c .before .before .before .before .before .before .before .before .before .before .before .if1 .left) in
     let p = c .before .before .before .before .before .before .before .before .before .before .before .before .before .before .before .before .before .before .before .before .before .before .before .before .pre in
-    let z = rows-nodes (p .2) in
-    let F = outcome-found (c .before .before .before .before .before .before .before .before .before .before .before .before .before .before .before .before .search .ensures) (c .before .before .before .before .before .before .before .before .before .before .before .if1 .left) in
-    let e = last-level F (c .before .before .before .before .before .before .before .before .before .wide .ensures) (c .before .before .before .before .before .before .before .wide2 .ensures) in
-    (omega arith, omega (arith, p .1), rows-at (p .2), p .4 ∙ sym z, e, omega (arith, F .short), rw (F .ordered .start) at (c .before .before .before .before .flag-all .ensures)))
-    (λ c. c .before .before .before .before .before .before .before .flag-all .kept .1 .1 .0 ∙ c .before .before .before .before .before .before .before .before .before .before .before .before .before .before .before .before .before .before .before .search .kept .1 .1 .1 .0)
-    (λ c. c .before .before .before .before .before .before .before .before .before .before .before .before .before .before .before .before .before .before .before .search .kept .1 .1 .1 .1 .0)
+    let k = c .before .before .before .before .flag-all .kept .1 .1 .0 ∙ c .before .before .before .before .before .before .before .before .before .before .before .before .before .before .before .before .levels .kept .1 .1 .1 .0 in
+    (rw k (p .0), rw k (p .1), rw k (p .2), p .4 ∙ sym k, last-some F (c .before .before .before .before .before .before .before .before .before .from-word .ensures) (c .before .before .before .before .before .before .before .from-word2 .ensures), omega (arith, last-few F (c .before .before .before .before .before .before .before .before .before .from-word .ensures) (c .before .before .before .before .before .before .before .from-word2 .ensures), c .before .before .before .before .flag-all .kept .1 .1 .0)))
+    (λ c. c .before .before .before .before .before .before .before .flag-all .kept .1 .1 .0 ∙ c .before .before .before .before .before .before .before .before .before .before .before .before .before .before .before .before .before .before .before .levels .kept .1 .1 .1 .0)
+    (λ c. c .before .before .before .before .before .before .before .before .before .before .before .before .before .before .before .before .before .before .before .levels .kept .1 .1 .1 .1 .0)
     (λ c. c .before .before .trace .kept .1 .1 .1 .1 .1 .0)
     (λ c.
-    let a = c .before .before .before .before .before .before .before .before .before .before .before .before .before .before .before .before .before .before .before .before .before .before .before .before .before .before .before .args in
+    let F = outcome-found (c .before .before .before .before .before .before .before .before .before .before .before .before .before .before .before .before .before .before .before .levels .ensures) (c .before .before .before .before .before .before .before .before .before .before .before .before .before .before .if1 .left) in
     let p = c .before .before .before .before .before .before .before .before .before .before .before .before .before .before .before .before .before .before .before .before .before .before .before .before .before .before .before .pre in
-    let F = outcome-found (c .before .before .before .before .before .before .before .before .before .before .before .before .before .before .before .before .before .before .before .search .ensures) (c .before .before .before .before .before .before .before .before .before .before .before .before .before .before .if1 .left) in
-    let e = last-level F (c .before .before .before .before .before .before .before .before .before .before .before .before .wide .ensures) (c .before .before .before .before .before .before .before .before .before .before .wide2 .ensures) in
-    let r = edge-inside (a .first .now) (a .targets .now) (rows-at (p .2)) in
-    let b : a .q < nodes (a .first .now) = omega (arith, rows-nodes (p .2)) in
-    closes-rows (p .2) (p .0)
-    (closes-found (nodes (a .first .now)) (edge (a .first .now) (a .targets .now)) r (a .q) b (F .short) e (c .before .before .trace .ensures))))
+    let a = c .before .before .before .before .before .before .before .before .before .before .before .before .before .before .before .before .before .before .before .before .before .before .before .before .before .before .before .args in
+    let k = c .before .before .before .before .before .before .before .before .before .before .before .before .before .before .before .before .before .before .before .levels .kept .1 .1 .1 .0 in
+    let y = last-level F (c .before .before .before .before .before .before .before .before .before .before .before .before .from-word .ensures) (c .before .before .before .before .before .before .before .before .before .before .from-word2 .ensures) in
+    let z = last-some F (c .before .before .before .before .before .before .before .before .before .before .before .before .from-word .ensures) (c .before .before .before .before .before .before .before .before .before .before .from-word2 .ensures) in
+    λ e H. closes-cut H (p .0) (walk-closes (rw k (cut-agrees H (p .0))) k (F .aims) y z (c .before .before .before .before .before .before .before .flag-all .ensures) (c .before .before .trace .last .1 .1 .1 .1 .1 .0) (c .before .before .trace .ensures (cut (length (a .level .now)) e)))))

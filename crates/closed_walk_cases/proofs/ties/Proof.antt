@@ -3,7 +3,7 @@ use mathlib.Core.Path.{refl}
 use borrow.Author.Needs.{needs}
 use native.Mathlib.Omega.{arith}
 use Rattle.theory.specs.Below.{all}
-use Rattle.closed_walk_cases.proofs.Tests.{rows-test}
+use Rattle.search.proofs.RowsTest.{rows-test}
 use Rattle.closed_walk_cases.proofs.ties.Statement.{statement}
 use Rattle.closed_walk_cases.proofs.ties.Tie as tie
 

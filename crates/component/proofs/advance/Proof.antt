@@ -4,8 +4,7 @@ use Prim.Native.Nat.{_+_, _-_}
 use mathlib.Core.Path.{_∙_}
 use lib.ListN.{getD, length-set}
 use borrow.Author.Needs.{needs}
-use Rattle.component.proofs.Pass.{cur-node, top-le, depth-le, segs-le, cur-lt, cur-cursor, none-new}
-use Rattle.component.proofs.Pass.{step-small, step-place, step-node, step-top, pass-step, step-falls}
+use Rattle.component.proofs.Pass.{cur-node, top-le, depth-le, segs-le, cur-lt, cur-cursor, none-new, step-small, step-place, step-node, step-top, pass-step, step-falls}
 use Rattle.component.proofs.Ends.{pass-as, moved-as}
 use Rattle.component.proofs.Graph.{first-few}
 use Rattle.component.proofs.advance.Statement.{statement}

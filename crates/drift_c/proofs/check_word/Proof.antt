@@ -3,7 +3,7 @@ use mathlib.Core.Path.{sym, ap, _∙_}
 use native.Mathlib.Omega.{arith}
 use borrow.Author.Needs.{needs}
 use Rattle.evidence.specs.declared.Evidence.{Evidence}
-use Rattle.drift.specs.Check.{told}
+use Rattle.op_check.specs.Check.{evidenceAnswer}
 use Rattle.drift_c.specs.Words.{checkWord}
 use Rattle.drift_c.proofs.Fields.{kind-word-is, check-refused-is}
 use Rattle.drift_c.proofs.check_word.Statement.{statement}
@@ -22,16 +22,16 @@ cast-result : tie.Need-cast-result
 cast-result c = search needs
 
 returns : tie.Need-returns
-unfolding told
-returns c = kind-word-is _ 1 (omega arith) ∙ ap (λ (e : Evidence). checkWord (told e)) (sym (c .enum-told .given .1))
+unfolding evidenceAnswer
+returns c = kind-word-is _ 1 (omega arith) ∙ ap (λ (e : Evidence). checkWord (evidenceAnswer e)) (sym (c .enum-told .given .1))
 
 returns-2 : tie.Need-returns-2
-unfolding told
-returns-2 c = kind-word-is _ 2 (omega arith) ∙ ap (λ (e : Evidence). checkWord (told e)) (sym (c .enum-told2 .given .1))
+unfolding evidenceAnswer
+returns-2 c = kind-word-is _ 2 (omega arith) ∙ ap (λ (e : Evidence). checkWord (evidenceAnswer e)) (sym (c .enum-told2 .given .1))
 
 returns-3 : tie.Need-returns-3
-unfolding told
-returns-3 c = check-refused-is _ ∙ ap (λ (e : Evidence). checkWord (told e)) (sym (c .before .answer .given .1))
+unfolding evidenceAnswer
+returns-3 c = check-refused-is _ ∙ ap (λ (e : Evidence). checkWord (evidenceAnswer e)) (sym (c .before .answer .given .1))
 
 pub check-word-spec : {M : Type 1} → statement M
 check-word-spec =

@@ -1,8 +1,8 @@
 -- `drift_c::judge_word` meets its contract.
 use mathlib.Core.Path.{sym, ap, subst, _∙_}
 use native.Mathlib.Omega.{arith}
-use Rattle.drift.specs.declared.Judgement.{Judgement}
-use Rattle.drift.specs.Judge.{told}
+use Rattle.op_judge.specs.declared.Judgement.{Judgement}
+use Rattle.op_judge.specs.Judge.{judgementAnswer}
 use Rattle.drift_c.specs.Words.{judgeWord, Fields}
 use Rattle.drift_c.proofs.Fields.{verdict-fields, verdict-word-is, refused-word-is}
 use borrow.Author.Needs.{needs}
@@ -13,17 +13,17 @@ enum-known-answer : tie.Need-enum-known-answer
 enum-known-answer c = search needs
 
 verdict-word-requires : tie.Need-verdict-word-requires
-unfolding told
+unfolding judgementAnswer
 verdict-word-requires c κs =
-    verdict-fields 0 _ _ (omega arith) (subst (λ (j : Judgement). Fields (told j)) (c .before .answer .given .1) (c .before .before .before .pre))
+    verdict-fields 0 _ _ (omega arith) (subst (λ (j : Judgement). Fields (judgementAnswer j)) (c .before .answer .given .1) (c .before .before .before .pre))
 
 enum-known-answer-2 : tie.Need-enum-known-answer-2
 enum-known-answer-2 c = search needs
 
 verdict-word-requires-2 : tie.Need-verdict-word-requires-2
-unfolding told
+unfolding judgementAnswer
 verdict-word-requires-2 c κs =
-    verdict-fields 1 _ _ (omega arith) (subst (λ (j : Judgement). Fields (told j)) (c .before .answer2 .given .1) (c .before .before .before .pre))
+    verdict-fields 1 _ _ (omega arith) (subst (λ (j : Judgement). Fields (judgementAnswer j)) (c .before .answer2 .given .1) (c .before .before .before .pre))
 
 enum-known-answer-3 : tie.Need-enum-known-answer-3
 enum-known-answer-3 c = search needs
@@ -32,19 +32,19 @@ cast-result : tie.Need-cast-result
 cast-result c = search needs
 
 returns : tie.Need-returns
-unfolding told
+unfolding judgementAnswer
 returns c =
-    verdict-word-is _ 0 _ _ (c .verdict-word .ensures) ∙ ap (λ (j : Judgement). judgeWord (told j)) (sym (c .before .before .answer .given .1))
+    verdict-word-is _ 0 _ _ (c .verdict-word .ensures) ∙ ap (λ (j : Judgement). judgeWord (judgementAnswer j)) (sym (c .before .before .answer .given .1))
 
 returns-2 : tie.Need-returns-2
-unfolding told
+unfolding judgementAnswer
 returns-2 c =
-    verdict-word-is _ 1 _ _ (c .verdict-word2 .ensures) ∙ ap (λ (j : Judgement). judgeWord (told j)) (sym (c .before .before .answer2 .given .1))
+    verdict-word-is _ 1 _ _ (c .verdict-word2 .ensures) ∙ ap (λ (j : Judgement). judgeWord (judgementAnswer j)) (sym (c .before .before .answer2 .given .1))
 
 returns-3 : tie.Need-returns-3
-unfolding told
+unfolding judgementAnswer
 returns-3 c =
-    refused-word-is _ ∙ ap (λ (j : Judgement). judgeWord (told j)) (sym (c .before .answer3 .given .1))
+    refused-word-is _ ∙ ap (λ (j : Judgement). judgeWord (judgementAnswer j)) (sym (c .before .answer3 .given .1))
 
 pub judge-word-spec : {M : Type 1} → statement M
 judge-word-spec =

@@ -2,8 +2,8 @@
 use mathlib.Core.Path.{sym, ap, subst, _∙_}
 use native.Mathlib.Omega.{arith}
 use borrow.Author.Needs.{needs}
-use Rattle.drift.specs.declared.Tolerance.{Tolerance}
-use Rattle.drift.specs.Margin.{told}
+use Rattle.op_margin.specs.declared.Tolerance.{Tolerance}
+use Rattle.op_margin.specs.Margin.{toleranceAnswer}
 use Rattle.drift_c.specs.Words.{marginWord, Fields}
 use Rattle.drift_c.proofs.Fields.{bound-word-is, margin-refused-is}
 use Rattle.drift_c.proofs.margin_word.Statement.{statement}
@@ -13,22 +13,22 @@ enum-known-answer : tie.Need-enum-known-answer
 enum-known-answer c = search needs
 
 mul-result : tie.Need-mul-result
-unfolding told
+unfolding toleranceAnswer
 mul-result c =
-    let f = subst (λ (t : Tolerance). Fields (told t)) (c .before .answer .given .1) (c .before .before .before .pre) in omega (arith, f .fit 0, f .fit 1)
+    let f = subst (λ (t : Tolerance). Fields (toleranceAnswer t)) (c .before .answer .given .1) (c .before .before .before .pre) in omega (arith, f .fit 0, f .fit 1)
 
 cast-result : tie.Need-cast-result
 cast-result c = search needs
 
 mul-result-2 : tie.Need-mul-result-2
-unfolding told
+unfolding toleranceAnswer
 mul-result-2 c =
-    let f = subst (λ (t : Tolerance). Fields (told t)) (c .before .answer .given .1) (c .before .before .before .pre) in omega (arith, f .fit 0, f .fit 1)
+    let f = subst (λ (t : Tolerance). Fields (toleranceAnswer t)) (c .before .answer .given .1) (c .before .before .before .pre) in omega (arith, f .fit 0, f .fit 1)
 
 add-result : tie.Need-add-result
-unfolding told
+unfolding toleranceAnswer
 add-result c =
-    let f = subst (λ (t : Tolerance). Fields (told t)) (c .before .answer .given .1) (c .before .before .before .pre) in omega (arith, f .fit 0, f .fit 1)
+    let f = subst (λ (t : Tolerance). Fields (toleranceAnswer t)) (c .before .answer .given .1) (c .before .before .before .pre) in omega (arith, f .fit 0, f .fit 1)
 
 enum-known-answer-2 : tie.Need-enum-known-answer-2
 enum-known-answer-2 c = search needs
@@ -37,12 +37,12 @@ cast-result-2 : tie.Need-cast-result-2
 cast-result-2 c = search needs
 
 returns : tie.Need-returns
-unfolding told
-returns c = bound-word-is _ _ _ (omega arith) ∙ ap (λ (t : Tolerance). marginWord (told t)) (sym (c .before .answer .given .1))
+unfolding toleranceAnswer
+returns c = bound-word-is _ _ _ (omega arith) ∙ ap (λ (t : Tolerance). marginWord (toleranceAnswer t)) (sym (c .before .answer .given .1))
 
 returns-2 : tie.Need-returns-2
-unfolding told
-returns-2 c = margin-refused-is _ ∙ ap (λ (t : Tolerance). marginWord (told t)) (sym (c .before .answer2 .given .1))
+unfolding toleranceAnswer
+returns-2 c = margin-refused-is _ ∙ ap (λ (t : Tolerance). marginWord (toleranceAnswer t)) (sym (c .before .answer2 .given .1))
 
 pub margin-word-spec : {M : Type 1} → statement M
 margin-word-spec =

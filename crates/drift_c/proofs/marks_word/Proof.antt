@@ -1,8 +1,8 @@
 -- `drift_c::marks_word` meets its contract.
 use mathlib.Core.Path.{sym, ap, subst, _∙_}
 use native.Mathlib.Omega.{arith}
-use Rattle.drift.specs.declared.Marking.{Marking}
-use Rattle.drift.specs.Marks.{told}
+use Rattle.op_marks.specs.declared.Marking.{Marking}
+use Rattle.op_marks.specs.Marks.{markingAnswer}
 use Rattle.drift_c.specs.Words.{marksWord, Fields}
 use Rattle.drift_c.proofs.Fields.{marks-word-is, marks-refused-is}
 use borrow.Author.Needs.{needs}
@@ -13,9 +13,9 @@ enum-known-answer : tie.Need-enum-known-answer
 enum-known-answer c = search needs
 
 mul-result : tie.Need-mul-result
-unfolding told
+unfolding markingAnswer
 mul-result c =
-    let f = subst (λ (j : Marking). Fields (told j)) (c .before .answer .given .1) (c .before .before .before .pre) in omega (arith, f .fit 0)
+    let f = subst (λ (j : Marking). Fields (markingAnswer j)) (c .before .answer .given .1) (c .before .before .before .pre) in omega (arith, f .fit 0)
 
 enum-known-answer-2 : tie.Need-enum-known-answer-2
 enum-known-answer-2 c = search needs
@@ -24,14 +24,14 @@ cast-result : tie.Need-cast-result
 cast-result c = search needs
 
 returns : tie.Need-returns
-unfolding told
+unfolding markingAnswer
 returns c =
-    marks-word-is _ ∙ ap (λ (j : Marking). marksWord (told j)) (sym (c .before .answer .given .1))
+    marks-word-is _ ∙ ap (λ (j : Marking). marksWord (markingAnswer j)) (sym (c .before .answer .given .1))
 
 returns-2 : tie.Need-returns-2
-unfolding told
+unfolding markingAnswer
 returns-2 c =
-    marks-refused-is _ ∙ ap (λ (j : Marking). marksWord (told j)) (sym (c .before .answer2 .given .1))
+    marks-refused-is _ ∙ ap (λ (j : Marking). marksWord (markingAnswer j)) (sym (c .before .answer2 .given .1))
 
 pub marks-word-spec : {M : Type 1} → statement M
 marks-word-spec =

@@ -3,7 +3,7 @@ use mathlib.Core.Path.{sym, ap, subst, _∙_}
 use native.Mathlib.Omega.{arith}
 use borrow.Author.Needs.{needs}
 use Rattle.evidence_writer.specs.declared.Written.{Written}
-use Rattle.drift.specs.Write.{told}
+use Rattle.op_write.specs.Write.{writtenAnswer}
 use Rattle.drift_c.specs.Words.{writeWord, Room}
 use Rattle.drift_c.proofs.Fields.{written-word-is, write-refused-is}
 use Rattle.drift_c.proofs.write_word.Statement.{statement}
@@ -13,19 +13,19 @@ enum-known-answer : tie.Need-enum-known-answer
 enum-known-answer c = search needs
 
 mul-result : tie.Need-mul-result
-unfolding told
-mul-result c = let b = subst (λ (w : Written). Room (told w)) (c .before .answer .given .1) (c .before .before .before .pre) .few in omega (arith, b)
+unfolding writtenAnswer
+mul-result c = let b = subst (λ (w : Written). Room (writtenAnswer w)) (c .before .answer .given .1) (c .before .before .before .pre) .few in omega (arith, b)
 
 enum-known-answer-2 : tie.Need-enum-known-answer-2
 enum-known-answer-2 c = search needs
 
 mul-result-2 : tie.Need-mul-result-2
-unfolding told
-mul-result-2 c = let b = subst (λ (w : Written). Room (told w)) (c .before .answer2 .given .1) (c .before .before .before .pre) .few in omega (arith, b)
+unfolding writtenAnswer
+mul-result-2 c = let b = subst (λ (w : Written). Room (writtenAnswer w)) (c .before .answer2 .given .1) (c .before .before .before .pre) .few in omega (arith, b)
 
 add-result : tie.Need-add-result
-unfolding told
-add-result c = let b = subst (λ (w : Written). Room (told w)) (c .before .answer2 .given .1) (c .before .before .before .pre) .few in omega (arith, b)
+unfolding writtenAnswer
+add-result c = let b = subst (λ (w : Written). Room (writtenAnswer w)) (c .before .answer2 .given .1) (c .before .before .before .pre) .few in omega (arith, b)
 
 enum-known-answer-3 : tie.Need-enum-known-answer-3
 enum-known-answer-3 c = search needs
@@ -34,16 +34,16 @@ cast-result : tie.Need-cast-result
 cast-result c = search needs
 
 returns : tie.Need-returns
-unfolding told
-returns c = written-word-is _ 0 _ (omega arith) ∙ ap (λ (w : Written). writeWord (told w)) (sym (c .before .answer .given .1))
+unfolding writtenAnswer
+returns c = written-word-is _ 0 _ (omega arith) ∙ ap (λ (w : Written). writeWord (writtenAnswer w)) (sym (c .before .answer .given .1))
 
 returns-2 : tie.Need-returns-2
-unfolding told
-returns-2 c = written-word-is _ 1 _ (omega arith) ∙ ap (λ (w : Written). writeWord (told w)) (sym (c .before .answer2 .given .1))
+unfolding writtenAnswer
+returns-2 c = written-word-is _ 1 _ (omega arith) ∙ ap (λ (w : Written). writeWord (writtenAnswer w)) (sym (c .before .answer2 .given .1))
 
 returns-3 : tie.Need-returns-3
-unfolding told
-returns-3 c = write-refused-is _ ∙ ap (λ (w : Written). writeWord (told w)) (sym (c .before .answer3 .given .1))
+unfolding writtenAnswer
+returns-3 c = write-refused-is _ ∙ ap (λ (w : Written). writeWord (writtenAnswer w)) (sym (c .before .answer3 .given .1))
 
 pub write-word-spec : {M : Type 1} → statement M
 write-word-spec =

@@ -1,6 +1,6 @@
 -- `evidence::check` meets its contract.
 use borrow.Author.Needs.{needs}
-use Rattle.region.proofs.Known.{front-selected, front-length}
+use Rattle.region_table.proofs.Listed.{front-selected, front-length}
 use Rattle.evidence.proofs.Ways.{read-refused, read-checked}
 use Rattle.evidence.proofs.check.Statement.{statement}
 use Rattle.evidence.proofs.check.Tie as tie

@@ -4,18 +4,19 @@ use Rattle.evidence.proofs.fill_and_check.Statement.{statement}
 use Rattle.evidence.proofs.fill_and_check.Tie as tie
 
 fill-tables-requires : tie.Need-fill-tables-requires
-fill-tables-requires c κs = search needs
+fill-tables-requires c κs =
+    let start = c .before .before .before .before .before .before .before .before .before .before .before in
+    (start .pre .0 .0, start .pre .0 .1, start .pre .1)
 
 check-sheet-requires : tie.Need-check-sheet-requires
 check-sheet-requires c κs =
-    let start = c .before .before .before .before .before .before .before .before .before .before .before .before .before .before .before .before .before .before .before .before .before .before .before .before .before .before .before .before .before .before .before .before .before .before .before .before .before .before .before .before .before .before .before in
-    let tables = c .before .before .before .before .before .before .before .before .before .before .before .before .before .before .before .before .before .before .before .before .before .before .before .fill-tables .ensures in (
-      record {
-        flags = tables .0;
-        filled = record { lawful = start .pre .0 .0; flow = tables .1; face = tables .2 .face; corners = tables .2 .slots };
-      },
-      start .pre .0 .2,
-    )
+    let start = c .before .before .before .before .before .before .before .before .before .before .before .before .before .before .before .before .before .before .before .before .before .before .before .before .before in
+    let tables = c .before .before .before .before .before .before .before .before .before .before .before .before .before .fill-tables .ensures in
+    record {
+      flags = tables .by-state .flags;
+      filled = record { lawful = start .pre .0 .0; flow = tables .by-state .flow; tables = tables .by-region };
+      long = start .pre .0 .2;
+    }
 
 same-length : tie.Need-same-length
 same-length c = search needs
@@ -32,18 +33,6 @@ same-length-4 c = search needs
 same-length-5 : tie.Need-same-length-5
 same-length-5 c = search needs
 
-same-length-6 : tie.Need-same-length-6
-same-length-6 c = search needs
-
-same-length-7 : tie.Need-same-length-7
-same-length-7 c = search needs
-
-same-length-8 : tie.Need-same-length-8
-same-length-8 c = search needs
-
-same-length-9 : tie.Need-same-length-9
-same-length-9 c = search needs
-
 returns : tie.Need-returns
 returns c = search needs
 
@@ -58,8 +47,4 @@ fill-and-check-spec =
     same-length-3
     same-length-4
     same-length-5
-    same-length-6
-    same-length-7
-    same-length-8
-    same-length-9
     returns)

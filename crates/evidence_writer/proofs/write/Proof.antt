@@ -1,6 +1,7 @@
 -- `evidence_writer::write` meets its contract.
 use borrow.Author.Needs.{needs}
-use Rattle.region.proofs.Known.{front-selected, front-length}
+use native.Mathlib.Omega.{arith}
+use Rattle.region_table.proofs.Listed.{front-selected, front-length}
 use Rattle.evidence_writer.proofs.write.Statement.{statement}
 use Rattle.evidence_writer.proofs.write.Tie as tie
 
@@ -13,15 +14,16 @@ select-requires c κs = search needs
 array-share-prefix-table : tie.Need-array-share-prefix-table
 array-share-prefix-table c = search needs
 
-slice-aggregate-write-regions : tie.Need-slice-aggregate-write-regions
-slice-aggregate-write-regions c =
-    let s = c .before .before .select in front-length _ _ _ _ _ (s .ensures .0) (s .ensures .1 .0)
+slice-aggregate-write-small : tie.Need-slice-aggregate-write-small
+slice-aggregate-write-small c =
+    let s = c .before .before .before .select in
+    front-length _ _ _ _ _ (s .ensures .0) (s .ensures .1 .0)
 
-write-regions-requires : tie.Need-write-regions-requires
-write-regions-requires c κs =
-    let start = c .before .before .before .before .before .before .before .before .before .before .before .before .before .before in
-    let s = c .before .before .before .before .before .before .before .select in
-    ((start .pre .0, front-selected _ _ _ _ _ (s .ensures .0) (s .ensures .1 .0)), start .pre .1)
+write-small-requires : tie.Need-write-small-requires
+write-small-requires c κs =
+    let start = c .before .before .before .before .before .before .before .before .before .before .before .before .before .before .before in
+    let s = c .before .before .before .before .before .before .before .before .select in
+    ((start .pre .0, front-selected _ _ _ _ _ (s .ensures .0) (s .ensures .1 .0), start .pre .1), rw (← front-length _ _ _ _ _ (s .ensures .0) (s .ensures .1 .0)) (c .before .before .before .before .before .before .if1 .taken))
 
 same-length : tie.Need-same-length
 same-length c = search needs
@@ -41,6 +43,38 @@ same-length-5 c = search needs
 returns : tie.Need-returns
 returns c = search needs
 
+array-share-prefix-table-2 : tie.Need-array-share-prefix-table-2
+array-share-prefix-table-2 c = search needs
+
+slice-aggregate-write-large : tie.Need-slice-aggregate-write-large
+slice-aggregate-write-large c =
+    let s = c .before .before .before .select in
+    front-length _ _ _ _ _ (s .ensures .0) (s .ensures .1 .0)
+
+write-large-requires : tie.Need-write-large-requires
+write-large-requires c κs =
+    let start = c .before .before .before .before .before .before .before .before .before .before .before .before .before .before .before in
+    let s = c .before .before .before .before .before .before .before .before .select in
+    (start .pre .0, front-selected _ _ _ _ _ (s .ensures .0) (s .ensures .1 .0), start .pre .1)
+
+same-length-6 : tie.Need-same-length-6
+same-length-6 c = search needs
+
+same-length-7 : tie.Need-same-length-7
+same-length-7 c = search needs
+
+same-length-8 : tie.Need-same-length-8
+same-length-8 c = search needs
+
+same-length-9 : tie.Need-same-length-9
+same-length-9 c = search needs
+
+same-length-10 : tie.Need-same-length-10
+same-length-10 c = search needs
+
+returns-2 : tie.Need-returns-2
+returns-2 c = search needs
+
 pub write-spec : {M : Type 1} → statement M
 write-spec =
     tie.close
@@ -48,11 +82,20 @@ write-spec =
     slice-aggregate-select
     select-requires
     array-share-prefix-table
-    slice-aggregate-write-regions
-    write-regions-requires
+    slice-aggregate-write-small
+    write-small-requires
     same-length
     same-length-2
     same-length-3
     same-length-4
     same-length-5
-    returns)
+    returns
+    array-share-prefix-table-2
+    slice-aggregate-write-large
+    write-large-requires
+    same-length-6
+    same-length-7
+    same-length-8
+    same-length-9
+    same-length-10
+    returns-2)

@@ -1,7 +1,7 @@
 -- `region_of` meets its contract.
 use native.Mathlib.Omega.{arith}
 use Rattle.graph.proofs.States.{clocks-of, ceiling-of, some-region, region-in, region-is}
-use Rattle.region.proofs.Known.{listed-below}
+use Rattle.region_table.proofs.Listed.{listed-below}
 use Rattle.graph.proofs.region_of.Statement.{statement}
 use Rattle.graph.proofs.region_of.Tie as tie
 

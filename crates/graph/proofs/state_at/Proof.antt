@@ -2,9 +2,9 @@
 use native.Mathlib.Omega.{arith}
 use mathlib.Core.Path.{sym, ap, _∙_}
 use borrow.Author.Needs.{needs}
-use Rattle.graph.proofs.States.{clocks-of, ceiling-of, small-of, states-most, at-missing, at-state, at-none}
-use Rattle.region.proofs.Known.{listed-increasing}
-use Rattle.region.specs.Lookup.{foundIn}
+use Rattle.graph.proofs.States.{clocks-of, ceiling-of, small-of, states-limit, at-missing, at-state, at-none}
+use Rattle.region_table.proofs.Listed.{listed-increasing}
+use Rattle.region_table.specs.Lookup.{foundIn}
 use Rattle.graph.proofs.state_at.Statement.{statement}
 use Rattle.graph.proofs.state_at.Tie as tie
 
@@ -42,7 +42,7 @@ mul-t10 c =
     (s .args .g) (s .pre .2) (s .pre .3)
     (sym (f .before .before .before .stays .ensures) ∙ f .before .before .if1 .taken)
     (ap (foundIn (s .args .table .now)) (sym (f .before .pack .ensures .0)) ∙ sym (f .find .ensures) ∙ c .before .found .given .1) in
-    omega (arith, q .0, states-most (s .args .m) (s .pre .0) (s .args .table .now) (s .pre .1))
+    omega (arith, q .0, states-limit (s .args .m) (s .pre .0))
 
 add-t11 : tie.Need-add-t11
 add-t11 c =
@@ -52,7 +52,7 @@ add-t11 c =
     (s .args .g) (s .pre .2) (s .pre .3)
     (sym (f .before .before .before .stays .ensures) ∙ f .before .before .if1 .taken)
     (ap (foundIn (s .args .table .now)) (sym (f .before .pack .ensures .0)) ∙ sym (f .find .ensures) ∙ c .before .found .given .1) in
-    omega (arith, q .0, states-most (s .args .m) (s .pre .0) (s .args .table .now) (s .pre .1))
+    omega (arith, q .0, states-limit (s .args .m) (s .pre .0))
 
 returns-2 : tie.Need-returns-2
 returns-2 c =

@@ -1,5 +1,5 @@
 use borrow.Author.Needs.{needs}
-use Rattle.region.proofs.Known.{front-selected, front-length}
+use Rattle.region_table.proofs.Listed.{front-selected, front-length}
 use Rattle.graph_cases.proofs.show.Statement.{statement}
 use Rattle.graph_cases.proofs.show.Tie as tie
 

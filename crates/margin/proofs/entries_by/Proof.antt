@@ -1,16 +1,16 @@
 -- `margin::entries_by` meets its contract. The invariant: the entries by the start and the edges from e on are counted, and each edge has
--- at most mostValues.
+-- at most maxValues.
 use borrow.Author.Needs.{needs}
 use native.Mathlib.Omega.{arith}
 use Prim.Native.Nat.{_+_, _*_, _-_, _≤_}
 use mathlib.Core.Path.{_≡_, sym, _∙_}
-use Rattle.margin.specs.Limits.{mostValues}
+use Rattle.robust.specs.Margin.{maxValues}
 use Rattle.margin.proofs.Entries.{entriesFrom, no-edges, all-edges, one-edge}
 use Rattle.margin.proofs.entries_by.Statement.{statement}
 use Rattle.margin.proofs.entries_by.Tie as tie
 
 abbrev Inv-loop : tie.InvT-loop
-Inv-loop m l count₀ e₀ count e = (e ≤ m .edges) × (count ≡ entriesFrom m l e) × (count + mostValues * e ≤ mostValues * m .edges + 1)
+Inv-loop m l count₀ e₀ count e = (e ≤ m .edges) × (count ≡ entriesFrom m l e) × (count + maxValues * e ≤ maxValues * m .edges + 1)
 
 abbrev μ-loop : tie.MeasureT-loop
 μ-loop m l count₀ e₀ count e = e

@@ -1,4 +1,4 @@
--- `margin::half_values` meets its contract: a product of three factors, each at most 9.
+-- `margin::half_values` meets its contract: a product of three factors, each at most maxFactor.
 use native.Mathlib.Omega.{arith}
 use borrow.Author.Needs.{needs}
 use Rattle.margin.proofs.Limits.{three-factors, product-most}

@@ -1,17 +1,16 @@
--- `margin::margin` meets its contract. The invariant: the entries of the locations below l are counted, at most mostValues for each.
+-- `margin::margin` meets its contract. The invariant: the entries of the locations below l are counted, at most maxValues for each.
 use borrow.Author.Needs.{needs}
 use native.Mathlib.Omega.{arith}
 use Prim.Native.Nat.{_+_, _*_, _-_, _≤_}
 use mathlib.Core.Path.{_≡_, refl, ap, ap₂, _∙_}
-use Rattle.robust.specs.Margin.{halfEntries, margin}
+use Rattle.robust.specs.Margin.{halfEntries, margin, maxValues}
 use Rattle.graph.specs.Plan.{automatonOf}
-use Rattle.margin.specs.Limits.{mostValues}
 use Rattle.margin.proofs.Entries.{one-location}
 use Rattle.margin.proofs.margin.Statement.{statement}
 use Rattle.margin.proofs.margin.Tie as tie
 
 abbrev Inv-loop : tie.InvT-loop
-Inv-loop m locations count₀ l₀ count l = (l ≤ m .locations) × (count ≡ halfEntries (automatonOf m) l) × (count ≤ mostValues * l)
+Inv-loop m locations count₀ l₀ count l = (l ≤ m .locations) × (count ≡ halfEntries (automatonOf m) l) × (count ≤ maxValues * l)
 
 abbrev μ-loop : tie.MeasureT-loop
 μ-loop m locations count₀ l₀ count l = m .locations - l

@@ -2,24 +2,28 @@
 use Prim.Native.Nat.{_-_, _≤_}
 use mathlib.Core.Path.{_≡_, refl, _∙_}
 use lib.ListN.{length, getD}
-use borrow.Author.Needs.{needs}
 use native.Mathlib.Omega.{arith}
-use Rattle.marking.specs.Queue.{LeadsFrom, Notes}
-use Rattle.marking.proofs.Queue.{fits-le, Partly, partly-first, takes-queue, between-turn, between-end}
+use borrow.Author.Needs.{needs}
+use Rattle.shapes.specs.Layout.{cornersIn}
+use Rattle.search.specs.Queue.{LeadsFrom}
+use Rattle.search.proofs.Queue.{fits-le, Partly, partly-first, takes-queue, between-turn, between-end}
+use Rattle.marking.specs.Tables.{Leads}
+use Rattle.marking.specs.Corners.{Notes}
+use Rattle.marking.proofs.Corners.{ready-next}
 use Rattle.marking.proofs.round.Statement.{statement}
 use Rattle.marking.proofs.round.Tie as tie
 
 abbrev Inv-loop : tie.InvT-loop
-Inv-loop regions first targets rows faces corner head link info far₀ queue₀ noted₀ x lo hi n₀ i₀ far queue noted n i =
+Inv-loop regions first targets shapes heights distance₀ queue₀ noted₀ x lo hi n₀ i₀ distance queue noted n i =
     (lo ≤ i)
     × (i ≤ hi)
     × (length noted ≡ length noted₀)
-    × Partly x (LeadsFrom regions first targets rows faces corner info queue₀ lo hi)
-    (LeadsFrom regions first targets rows faces corner info queue₀ i hi) far₀ far queue₀ queue hi n
-    × Notes regions (length head) corner info noted far
+    × Partly x (LeadsFrom (Leads regions first targets shapes heights) queue₀ lo hi) (LeadsFrom (Leads regions first targets shapes heights) queue₀ i hi)
+    distance₀ distance queue₀ queue hi n
+    × Notes regions (cornersIn regions shapes) heights noted distance
 
 abbrev μ-loop : tie.MeasureT-loop
-μ-loop regions first targets rows faces corner head link info far₀ queue₀ noted₀ x lo hi n₀ i₀ far queue noted n i = hi - i
+μ-loop regions first targets shapes heights distance₀ queue₀ noted₀ x lo hi n₀ i₀ distance queue noted n i = hi - i
 
 pub round-spec : {M : Type 1} → statement M
 round-spec =
@@ -27,31 +31,19 @@ round-spec =
     (tie.spec
     Inv-loop
     μ-loop
-    (λ c. (
-      omega arith,
-      c .before .before .before .before .before .before .before .before .before .before .before .pre .1,
-      refl,
-      partly-first
-          (c .before .before .before .before .before .before .before .before .before .before .before .pre .4),
-      c .before .before .before .before .before .before .before .before .before .before .before .pre .3,
-    ))
+    (λ c. (omega arith, c .before .before .before .before .before .before .before .pre .0, refl, partly-first (c .before .before .before .before .before .before .before .pre .2 .fits), c .before .before .before .before .before .before .before .pre .2 .notes))
     (λ c.
     let k = c .before .loop .inv .3 .takes in
-    omega (arith, fits-le (k .fits), k .more, k .fits .limit))
+    omega (arith, fits-le (k .fits), k .more, k .fits .limit, k .fits .same))
     (λ c.
     let k = c .before .before .loop .inv .3 .takes in
-    omega (arith, fits-le (k .fits), k .more, k .fits .same))
+    omega (arith, fits-le (k .fits), k .more, k .fits .limit, k .fits .same))
     (λ c κs. search needs)
     (λ c κs.
-    let p = c .before .before .before .before .before .before .before .before .before .before .before .before .before .before .before .before .before .before .pre in
+    let p = c .before .before .before .before .before .before .before .before .before .before .before .before .before .before .pre in
     let l = c .before .before .before .before .before .before .loop in
-    let k = l .inv .3 .takes in (
-      p .0,
-      rw (c .before .before .before .wide .ensures) (k .fits .below (l .i) (omega (arith, k .more))),
-      rw (k .long, l .inv .2) (p .2),
-      l .inv .4,
-      k .fits,
-    ))
+    let A = l .inv .3 .takes in
+    (rw (c .before .before .before .from-word .ensures) (A .fits .below (l .i) (omega (arith, A .more))), rw (A .long) (p .1), ready-next (p .2) (l .inv .2) A (l .inv .4)))
     (λ c.
     let k = c .before .before .before .before .before .before .before .before .before .before .before .before .before .loop .inv .3 .takes in
     omega (arith, fits-le (k .fits), k .more, k .fits .limit))
@@ -59,19 +51,11 @@ round-spec =
     (λ c.
     let l = c .before .before .before .before .before .before .before .before .before .before .before .before .before .loop in
     let t = c .before .before .before .before .before .before .spread in
-    let e : c .before .before .before .before .before .before .before .before .before .before .wide .result ≡ getD
-    (c .before .before .before .before .before .before .before .before .before .before .before .before .before .before .before .before .before .before .before .before .before .before .before .before .before .args .queue .now) (l .i) 0 = c .before .before .before .before .before .before .before .before .before .before .wide .ensures ∙ l .inv .3 .takes .kept (l .i) (omega arith) in (
-      omega arith,
-      omega arith,
-      t .kept .1 .1 .1 .1 .1 .1 .1 .1 .1 .1 .1 .0 ∙ l .inv .2,
-      between-turn (l .inv .3) (l .inv .0) (omega arith)
-          (rw e at (t .ensures .0)),
-      t .ensures .1,
-    ))
+    let e : c .before .before .before .before .before .before .before .before .before .before .from-word .result ≡ getD (c .before .before .before .before .before .before .before .before .before .before .before .before .before .before .before .before .before .before .before .before .before .args .queue .now) (l .i) 0 = c .before .before .before .before .before .before .before .before .before .before .from-word .ensures ∙ l .inv .3 .takes .kept (l .i) (omega arith) in
+    (omega arith, omega arith, t .kept .1 .1 .1 .1 .1 .1 .1 .0 ∙ l .inv .2, between-turn (l .inv .3) (l .inv .0) (omega arith) (rw e at (t .ensures .all)), t .ensures .notes))
     (λ c. c .before .loop .inv .3 .takes .long)
-    (λ c. takes-queue (c .before .loop .inv .3 .takes)
-    (c .before .before .before .before .before .before .before .before .before .before .before .before .before .pre .4))
+    (λ c. takes-queue (c .before .loop .inv .3 .takes) (c .before .before .before .before .before .before .before .before .before .pre .2 .fits))
     (λ c. c .before .loop .inv .2)
     (λ c.
     let i = c .before .loop .inv in
-    (between-end (i .3) (omega arith), i .4)))
+    record { all = between-end (i .3) (omega arith); notes = i .4 }))

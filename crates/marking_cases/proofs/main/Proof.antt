@@ -2,7 +2,7 @@
 use mathlib.Core.Path.{refl}
 use borrow.Author.Needs.{needs}
 use Rattle.theory.specs.Below.{all}
-use Rattle.marking_cases.proofs.Tests.{rows-test}
+use Rattle.search.proofs.RowsTest.{rows-test}
 use Rattle.marking_cases.proofs.main.Statement.{statement}
 use Rattle.marking_cases.proofs.main.Tie as tie
 

@@ -7,10 +7,10 @@ use Rattle.marking_cases.proofs.show_each.Statement.{statement}
 use Rattle.marking_cases.proofs.show_each.Tie as tie
 
 abbrev Inv-loop : tie.InvT-loop
-Inv-loop far i₀ i = i ≤ length far
+Inv-loop distance i₀ i = i ≤ length distance
 
 abbrev μ-loop : tie.MeasureT-loop
-μ-loop far i₀ i = length far - i
+μ-loop distance i₀ i = length distance - i
 
 pub show-each-spec : {M : Type 1} → statement M
 show-each-spec =

@@ -1,7 +1,8 @@
 -- `at` meets its contract: a number of the list is that of a known region.
 use denote.Ref.{now}
 use borrow.Author.Needs.{needs}
-use Rattle.region.proofs.Known.{known-small, listed-below, listed-known}
+use Rattle.region.proofs.Known.{known-small}
+use Rattle.region_table.proofs.Listed.{listed-below, listed-known}
 use Rattle.region_cases.proofs.at.Statement.{statement}
 use Rattle.region_cases.proofs.at.Tie as tie
 

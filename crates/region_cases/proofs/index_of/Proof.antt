@@ -1,7 +1,8 @@
 -- `index_of` meets its contract: a known region is small, and the list increases.
 use denote.Ref.{now}
 use borrow.Author.Needs.{needs}
-use Rattle.region.proofs.Known.{known-small, listed-increasing}
+use Rattle.region.proofs.Known.{known-small}
+use Rattle.region_table.proofs.Listed.{listed-increasing}
 use Rattle.region_cases.proofs.index_of.Statement.{statement}
 use Rattle.region_cases.proofs.index_of.Tie as tie
 

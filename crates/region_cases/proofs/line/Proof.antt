@@ -1,6 +1,6 @@
 -- `line` meets its contract: the selection stands at the front of the table.
 use borrow.Author.Needs.{needs}
-use Rattle.region.proofs.Known.{front-within, front-selected, front-length}
+use Rattle.region_table.proofs.Listed.{front-within, front-selected, front-length}
 use Rattle.region_cases.proofs.line.Statement.{statement}
 use Rattle.region_cases.proofs.line.Tie as tie
 

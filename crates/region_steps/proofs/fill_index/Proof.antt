@@ -8,7 +8,8 @@ use borrow.Author.Needs.{needs}
 use Rattle.theory.specs.Region.{regions}
 use Rattle.region.specs.View.{structOf}
 use Rattle.region.proofs.Known.{known-small}
-use Rattle.region_steps.specs.Codes.{codeCount, codeOf}
+use Rattle.limits.specs.Limits.{codeCount}
+use Rattle.region_steps.specs.Codes.{codeOf}
 use Rattle.region_steps.proofs.Steps.{index-next}
 use Rattle.region_steps.proofs.fill_index.Statement.{statement}
 use Rattle.region_steps.proofs.fill_index.Tie as tie
@@ -47,7 +48,7 @@ fill-index-spec =
       simp length-set (l .loop .inv .1),
       index-next (s .args .n) (s .args .ceiling) (s .pre .0) (s .pre .1) (l .loop .index) (l .loop .i) (c .code .result) (r .result)
           (omega arith) (r .ensures .0)
-          (r .ensures .1 ∙ ap (λ i. getD (regions (s .args .n) (s .args .ceiling)) i []) (c .before .before .wide .ensures))
+          (r .ensures .1 ∙ ap (λ i. getD (regions (s .args .n) (s .args .ceiling)) i []) (c .before .before .from-short .ensures))
           (c .code .ensures .0) (l .loop .inv .1) (l .loop .inv .2),
     ))
     (λ c. search needs)

@@ -9,7 +9,7 @@ use Rattle.theory.specs.Region.{resetClocks, closeUp, regions}
 use Rattle.theory.specs.StateGraph.{indexIn}
 use Rattle.region.specs.View.{maskBits}
 use Rattle.region.proofs.Known.{known-small}
-use Rattle.region_steps.specs.Codes.{maskCount}
+use Rattle.limits.specs.Limits.{maskCount}
 use Rattle.region_steps.proofs.Steps.{resets-next}
 use Rattle.region_steps.proofs.fill_resets.Statement.{statement}
 use Rattle.region_steps.proofs.fill_resets.Tie as tie
@@ -34,7 +34,7 @@ fill-resets-spec =
     (λ c κs. search needs)
     (λ c.
     let s = c .before .before .before .before .before in
-    (omega arith, s .pre .4 ∙ ap (λ r. maskCount * r) (sym (c .wide .ensures ∙ c .before .count .ensures)), λ k j h l. absurd (omega arith)))
+    (omega arith, s .pre .4 ∙ ap (λ r. maskCount * r) (sym (c .from-short .ensures ∙ c .before .count .ensures)), λ k j h l. absurd (omega arith)))
     (λ c κs. search needs)
     (λ c κs.
     let l = c .before .before .before in
@@ -56,14 +56,14 @@ fill-resets-spec =
       omega arith,
       p .put-resets .ensures .long ∙ l .loop .inv .1,
       resets-next (s .args .n) (s .args .ceiling) (s .pre .0) (s .pre .1) (s .args .index .now) (s .pre .3) (r .result) (r .ensures .0)
-          (w .wide .result) (w .wide .ensures ∙ w .before .count .ensures) (l .loop .moved) _ (l .loop .i) (omega arith)
+          (w .from-short .result) (w .from-short .ensures ∙ w .before .count .ensures) (l .loop .moved) _ (l .loop .i) (omega arith)
           (r .ensures .1) (p .put-resets .ensures) (l .loop .inv .2),
     ))
     (λ c. search needs)
     (λ c.
     let l = c .before in
     let w = l .before in
-    let e = w .wide .ensures ∙ w .before .count .ensures in
+    let e = w .from-short .ensures ∙ w .before .count .ensures in
     record {
       long = l .loop .inv .1 ∙ ap (λ r. maskCount * r) e;
       is = λ k j h b. rw (sym e) (l .loop .inv .2 k j h (omega arith));

@@ -16,4 +16,4 @@ number-of-spec =
     (λ c κs. search needs)
     (λ c n M v w.
     let a = c .before .before .before .before .args in
-    c .wide .ensures ∙ ap (λ p. getD (a .index .now) p 0) (c .before .before .code .ensures .0) ∙ indexed-at n M (a .index .now) v (a .g) w))
+    c .from-short .ensures ∙ ap (λ p. getD (a .index .now) p 0) (c .before .before .code .ensures .0) ∙ indexed-at n M (a .index .now) v (a .g) w))

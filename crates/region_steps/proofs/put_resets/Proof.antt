@@ -4,7 +4,8 @@ use native.Mathlib.Omega.{arith}
 use mathlib.Core.Path.{_≡_, ap}
 use lib.ListN.{getD}
 use borrow.Author.Needs.{needs}
-use Rattle.region_steps.specs.Codes.{maskCount, resetCode}
+use Rattle.limits.specs.Limits.{maskCount}
+use Rattle.region_steps.specs.Codes.{resetCode}
 use Rattle.region_steps.specs.Tables.{Column}
 use Rattle.region_steps.proofs.Fill.{pair-below, column-start, column-next}
 use Rattle.region_steps.proofs.put_resets.Statement.{statement}

@@ -1,6 +1,6 @@
 -- `region_at` meets its contract.
 use native.Mathlib.Omega.{arith}
-use Rattle.region.proofs.Known.{listed-length, listed-below, listed-known}
+use Rattle.region_table.proofs.Listed.{listed-length, listed-below, listed-known}
 use Rattle.region_steps.proofs.region_at.Statement.{statement}
 use Rattle.region_steps.proofs.region_at.Tie as tie
 

@@ -3,6 +3,7 @@ use native.Mathlib.Omega.{arith}
 use Prim.Native.Nat.{_+_, _*_}
 use mathlib.Core.Path.{ap, _∙_}
 use borrow.Author.Needs.{needs}
+use Rattle.limits.specs.Limits.{wholeBase, rankCodeCount}
 use Rattle.region.specs.declared.Region.{Region}
 use Rattle.region_steps.proofs.Codes.{reset-parts}
 use Rattle.region_steps.proofs.reset_code.Statement.{statement}
@@ -46,7 +47,7 @@ reset-code-spec =
       r2 = k5 .kept5 .result;
       r3 = k6 .kept6 .result;
     } in (
-      ap (λ r. ((x .w1 * 5 + x .w2) * 5 + x .w3) * 64 + r) (c .closed .ensures .0)
+      ap (λ r. ((x .w1 * wholeBase + x .w2) * wholeBase + x .w3) * rankCodeCount + r) (c .closed .ensures .0)
           ∙ reset-parts (s .args .mask) (s .args .g) x (s .pre)
           (λ i. record {
             w1 = k1 .kept .ensures .0 i;

@@ -16,12 +16,12 @@ to-face-spec =
     (λ c. search needs)
     (λ c. search needs)
     (λ c. let l = c .before .before in let s = l .before .before in
-    sym (face-shut _ _ _ _ (look-shut _ (s .pre .0) _ (s .pre .2) _ (sym (l .look-up .ensures) ∙ c .enum-told .given .1))))
+    sym (face-shut _ _ _ _ (look-shut _ (s .pre .lawful) _ (s .pre .below) _ (sym (l .look-up .ensures) ∙ c .enum-told .given .1))))
     (λ c κs. let g = c .before in let s = g .before .before .before .before in
-    (s .pre .0, s .pre .1, s .pre .2, look-to _ (s .pre .0) _ (s .pre .2) _ _ (sym (g .before .before .look-up .ensures) ∙ g .found .given .1) .2))
+    (s .pre .lawful, s .pre .listed, s .pre .below, look-to _ (s .pre .lawful) _ (s .pre .below) _ _ (sym (g .before .before .look-up .ensures) ∙ g .found .given .1) .2))
     (λ c. let h = c .before in let g = h .before .before in let s = g .before .before .before .before in
-    let (t, e, b) = look-to _ (s .pre .0) _ (s .pre .2) _ _ (sym (g .before .before .look-up .ensures) ∙ g .found .given .1) in
+    let (t, e, b) = look-to _ (s .pre .lawful) _ (s .pre .below) _ _ (sym (g .before .before .look-up .ensures) ∙ g .found .given .1) in
     face-opens _ _ _ _ _ t e (sym (h .has-face .ensures) ∙ c .if1 .taken))
     (λ c. let h = c .before in let g = h .before .before in let s = g .before .before .before .before in
-    let (t, e, b) = look-to _ (s .pre .0) _ (s .pre .2) _ _ (sym (g .before .before .look-up .ensures) ∙ g .found .given .1) in
+    let (t, e, b) = look-to _ (s .pre .lawful) _ (s .pre .below) _ _ (sym (g .before .before .look-up .ensures) ∙ g .found .given .1) in
     face-fails _ _ _ _ _ t e (sym (h .has-face .ensures) ∙ c .if1 .left)))

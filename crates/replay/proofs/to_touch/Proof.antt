@@ -16,14 +16,18 @@ to-touch-spec =
     (λ c. search needs)
     (λ c. search needs)
     (λ c. let l = c .before .before in let s = l .before .before .before in
-    sym (touch-shut _ _ _ _ _ (look-shut _ (s .pre .0) _ (s .pre .2) _ (sym (l .look-up .ensures) ∙ c .enum-told .given .1))))
+    sym (touch-shut _ _ _ _ _ (look-shut _ (s .pre .lawful) _ (s .pre .below) _ (sym (l .look-up .ensures) ∙ c .enum-told .given .1))))
     (λ c κs. let g = c .before in let s = g .before .before .before .before .before in
-    (s .pre .0, s .pre .1, s .pre .2, look-to _ (s .pre .0) _ (s .pre .2) _ _ (sym (g .before .before .look-up .ensures) ∙ g .found .given .1) .2))
+    (s .pre .lawful, s .pre .listed, s .pre .below, look-to _ (s .pre .lawful) _ (s .pre .below) _ _ (sym (g .before .before .look-up .ensures) ∙ g .found .given .1) .2))
     (λ c κs. let g = c .before .before .before in let s = g .before .before .before .before .before in
-    (s .pre .0, s .pre .1, look-to _ (s .pre .0) _ (s .pre .2) _ _ (sym (g .before .before .look-up .ensures) ∙ g .found .given .1) .2))
+    record {
+      lawful = s .pre .lawful;
+      listed = s .pre .listed;
+      below = look-to _ (s .pre .lawful) _ (s .pre .below) _ _ (sym (g .before .before .look-up .ensures) ∙ g .found .given .1) .2;
+    })
     (λ c. let i = c .before in let h = i .before in let g = h .before .before in let s = g .before .before .before .before .before in
-    let (t, e, b) = look-to _ (s .pre .0) _ (s .pre .2) _ _ (sym (g .before .before .look-up .ensures) ∙ g .found .given .1) in
+    let (t, e, b) = look-to _ (s .pre .lawful) _ (s .pre .below) _ _ (sym (g .before .before .look-up .ensures) ∙ g .found .given .1) in
     c .closed-walk .ensures ∙ touch-opens _ _ _ _ _ _ t e (sym (h .near .ensures) ∙ i .if1 .taken))
     (λ c. let h = c .before in let g = h .before .before in let s = g .before .before .before .before .before in
-    let (t, e, b) = look-to _ (s .pre .0) _ (s .pre .2) _ _ (sym (g .before .before .look-up .ensures) ∙ g .found .given .1) in
+    let (t, e, b) = look-to _ (s .pre .lawful) _ (s .pre .below) _ _ (sym (g .before .before .look-up .ensures) ∙ g .found .given .1) in
     touch-fails _ _ _ _ _ _ t e (sym (h .near .ensures) ∙ c .if1 .left)))

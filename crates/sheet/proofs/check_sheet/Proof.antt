@@ -2,43 +2,74 @@
 use mathlib.Core.Path.{sym, ap, _∙_}
 use borrow.Author.Needs.{needs}
 use Rattle.graph.specs.Plan.{systemOfModel}
-use Rattle.sheet.specs.Numbers.{refusalOf}
-use Rattle.sheet.proofs.Reading.{read-got, read-stop}
-use Rattle.sheet.proofs.Models.{read-asked, read-told}
+use Rattle.sheet_numbers.specs.Numbers.{refusalOf}
+use Rattle.sheet.proofs.Models.{read-asked, numbers-got, numbers-stop}
 use Rattle.sheet.proofs.Answer.{answer-refused, answer-blank, answer-left, answer-keeps, answer-broken}
 use Rattle.sheet.proofs.check_sheet.Statement.{statement}
 use Rattle.sheet.proofs.check_sheet.Tie as tie
+
+read-numbers-requires : tie.Need-read-numbers-requires
+read-numbers-requires c κs = let start = c .before .before .before .before .before .before .before in read-asked (start .pre)
+
+returns-refused : tie.Need-returns
+returns-refused c =
+    let told = c .before .enum-told .given .1 in
+    let read = c .before .before .before .before .before in
+    let start = read .before .before .before .before .before .before .before .before in
+    c .refusal .ensures ∙ ap refusalOf told
+    ∙ answer-refused _ _ _ _ (numbers-stop (start .pre) _ _ _ _ (read .read-numbers .ensures) _ told)
+
+returns-left : tie.Need-returns-2
+returns-left c =
+    let end = c .before .before in
+    let read = end .before .before .before .before in
+    let start = read .before .before .before .before .before .before .before .before in
+    answer-left _ _ _ _ _ (numbers-got (start .pre) _ _ _ _ (read .read-numbers .ensures) _ (end .got .given .1)) (c .if1 .taken)
+
+sheet-keeps-requires : tie.Need-sheet-keeps-requires
+sheet-keeps-requires c κs =
+    let end = c .before .before .before in
+    let read = end .before .before .before .before in
+    let start = read .before .before .before .before .before .before .before .before in
+    record {
+      filled = start .pre .filled;
+      long = search needs;
+      blank = answer-blank (systemOfModel (start .args .m)) _ _ _ _
+          (numbers-got (start .pre) _ _ _ _ (read .read-numbers .ensures) _ (end .got .given .1));
+    }
+
+returns-kept : tie.Need-returns-3
+returns-kept c =
+    let all = c .before .before .before in
+    let end = all .before .before in
+    let read = end .before .before .before .before in
+    let start = read .before .before .before .before .before .before .before .before in
+    answer-keeps _ _ _ _ _ (numbers-got (start .pre) _ _ _ _ (read .read-numbers .ensures) _ (end .got .given .1)) (all .if1 .left)
+    (sym (c .before .sheet-keeps .ensures) ∙ c .if2 .taken)
+
+returns-broken : tie.Need-returns-4
+returns-broken c =
+    let all = c .before .before .before in
+    let end = all .before .before in
+    let read = end .before .before .before .before in
+    let start = read .before .before .before .before .before .before .before .before in
+    answer-broken _ _ _ _ _ (numbers-got (start .pre) _ _ _ _ (read .read-numbers .ensures) _ (end .got .given .1)) (all .if1 .left)
+    (sym (c .before .sheet-keeps .ensures) ∙ c .if2 .left)
 
 pub check-sheet-spec : {M : Type 1} → statement M
 check-sheet-spec =
     tie.close
     (tie.spec
-    (λ c κs. let p = c .before .before .before .before .before .before .before .before .before .pre in read-asked _ _ (p .0 .flags) _ (p .1) (p .0 .filled .lawful))
+    read-numbers-requires
     (λ c. search needs)
     (λ c. search needs)
     (λ c κs. search needs)
     (λ c. search needs)
-    (λ c.
-    let p = c .before .before .before .before .before .before .before .before .before .before .before .before .before .before .before .pre in
-    c .refusal .ensures ∙ ap refusalOf (c .before .enum-told .given .1)
-    ∙ answer-refused _ _ _ _ (read-stop _ _ _ _ (c .before .before .before .before .before .read-numbers .ensures ∙ read-told _ _ (p .0 .flags) _ (p .1) _ _) (c .before .enum-told .given .1)))
+    returns-refused
     (λ c. search needs)
-    (λ c.
-    let p = c .before .before .before .before .before .before .before .before .before .before .before .before .before .before .before .before .pre in
-    answer-left _ _ _ _ _ (read-got _ _ _ _ (c .before .before .before .before .before .before .read-numbers .ensures ∙ read-told _ _ (p .0 .flags) _ (p .1) _ _) (c .before .before .got .given .1)) (c .if1 .taken))
-    (λ c κs.
-    let p = c .before .before .before .before .before .before .before .before .before .before .before .before .before .before .before .before .before .pre in (
-      p .0 .filled,
-      search needs,
-      answer-blank (systemOfModel (c .before .before .before .before .before .before .before .before .before .before .before .before .before .before .before .before .before .args .m)) _ _ _ _ (read-got _ _ _ _ (c .before .before .before .before .before .before .before .read-numbers .ensures ∙ read-told _ _ (p .0 .flags) _ (p .1) _ _) (c .before .before .before .got .given .1)),
-    ))
+    returns-left
+    sheet-keeps-requires
     (λ c. search needs)
-    (λ c.
-    let p = c .before .before .before .before .before .before .before .before .before .before .before .before .before .before .before .before .before .before .before .pre in
-    answer-keeps _ _ _ _ _ (read-got _ _ _ _ (c .before .before .before .before .before .before .before .before .before .read-numbers .ensures ∙ read-told _ _ (p .0 .flags) _ (p .1) _ _) (c .before .before .before .before .before .got .given .1)) (c .before .before .before .if1 .left)
-    (sym (c .before .sheet-keeps .ensures) ∙ c .if2 .taken))
+    returns-kept
     (λ c. search needs)
-    (λ c.
-    let p = c .before .before .before .before .before .before .before .before .before .before .before .before .before .before .before .before .before .before .before .pre in
-    answer-broken _ _ _ _ _ (read-got _ _ _ _ (c .before .before .before .before .before .before .before .before .before .read-numbers .ensures ∙ read-told _ _ (p .0 .flags) _ (p .1) _ _) (c .before .before .before .before .before .got .given .1)) (c .before .before .before .if1 .left)
-    (sym (c .before .sheet-keeps .ensures) ∙ c .if2 .left)))
+    returns-broken)

@@ -8,16 +8,16 @@ use Rattle.theory.specs.Below.{tab}
 use Rattle.number.specs.Number.{spellAll}
 use Rattle.spelling.specs.Lays.{Lays}
 use Rattle.spelling.proofs.Lays.{spell-few}
-use Rattle.sheet_writer.proofs.Numbers.{found, laid-none, laid-next, room-next, same-long, few-states, all-laid}
+use Rattle.sheet_writer.proofs.Numbers.{found, laid-none, laid-next, room-next, same-long, few-states, height-fits, all-laid}
 use Rattle.sheet_writer.proofs.put_sheet.Statement.{statement}
 use Rattle.sheet_writer.proofs.put_sheet.Tie as tie
 
 -- the number 1 stands before `end₀`
 abbrev Inv-loop : tie.InvT-loop
-Inv-loop info far out₀ end₀ p₀ out end p = (p ≤ length info) × Lays out₀ out end₀ end (spellAll (tab p (found info far)))
+Inv-loop heights distances out₀ end₀ p₀ out end p = (p ≤ length heights) × Lays out₀ out end₀ end (spellAll (tab p (found heights distances)))
 
 abbrev μ-loop : tie.MeasureT-loop
-μ-loop info far out₀ end₀ p₀ out end p = length info - p
+μ-loop heights distances out₀ end₀ p₀ out end p = length heights - p
 
 put-requires : tie.Need-put-requires Inv-loop μ-loop
 put-requires c κs = (omega arith, omega (arith, spell-few 1))
@@ -40,7 +40,10 @@ shared-slice-read-state-number-2 c =
     omega (arith, same-long (start .pre .0) (start .pre .1))
 
 state-number-requires : tie.Need-state-number-requires Inv-loop μ-loop
-state-number-requires c κs = search needs
+state-number-requires c κs =
+    let loop = c .before .before .before .before in
+    let start = loop .before .before .before .before .before .before .before .before in
+    height-fits (start .pre .0) (start .pre .1) (loop .loop .p) (c .before .before .before .loop-test .taken)
 
 put-requires-2 : tie.Need-put-requires-2 Inv-loop μ-loop
 put-requires-2 c κs =

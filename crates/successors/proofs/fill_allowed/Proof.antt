@@ -24,10 +24,10 @@ fill-allowed-spec =
     μ-loop
     (λ c κs. search needs)
     (λ c. let s = c .before .before .before in (omega arith, flags-none (s .pre .2)))
-    (λ c κs. let s = c .before .before .before .before .before .before in (s .pre .0, s .pre .1, omega (arith, c .before .before .before .byte .ensures), c .before .before .loop .inv .1))
+    (λ c κs. let s = c .before .before .before .before .before .before in (s .pre .0, s .pre .1, omega (arith, c .before .before .before .from-byte .ensures), c .before .before .loop .inv .1))
     (λ c. omega (arith, c .before .before .before .before .before .before .before .before .before .pre .0 .locations .1))
-    (λ c. omega (arith, c .before .before .before .before .before .before .byte .ensures))
-    (λ c. (omega (arith, c .before .before .before .before .before .before .byte .ensures), c .before .before .flag-location .ensures))
+    (λ c. omega (arith, c .before .before .before .before .before .before .from-byte .ensures))
+    (λ c. (omega (arith, c .before .before .before .before .before .before .from-byte .ensures), c .before .before .flag-location .ensures))
     (λ c. c .before .loop .inv .1 .long ∙ sym (c .before .before .before .before .before .pre .2))
-    (λ c. let e : c .before .loop .l ≡ c .before .before .before .before .before .args .m .locations = omega (arith, c .before .before .byte .ensures) in
+    (λ c. let e : c .before .loop .l ≡ c .before .before .before .before .before .args .m .locations = omega (arith, c .before .before .from-byte .ensures) in
     rw e at (c .before .loop .inv .1)))

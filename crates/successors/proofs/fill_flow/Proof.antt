@@ -35,13 +35,13 @@ fill-flow-spec =
     (omega arith, omega arith, refl, flow-first (s .pre .0) (s .args .first .now) (s .args .targets .now) (s .pre .1)))
     (λ c κs. let s = c .before .before .before .before .before .before .before .before .before .before .before in
     let o = c .before .before .before .loop .inv in
-    (s .pre .0, omega (arith, c .before .before .before .before .byte .ensures), o .1, flow-room (s .pre .0) (rw (o .2) (s .pre .2)), o .3))
+    (s .pre .0, omega (arith, c .before .before .before .before .from-byte .ensures), o .1, flow-room (s .pre .0) (rw (o .2) (s .pre .2)), o .3))
     (λ c. omega (arith, c .before .before .before .before .before .before .before .before .before .before .before .before .before .before .before .before .pre .0 .lawful .locations .1))
-    (λ c. omega (arith, c .before .before .before .before .before .before .before .before .before .byte .ensures))
+    (λ c. omega (arith, c .before .before .before .before .before .before .before .before .before .from-byte .ensures))
     (λ c. let r = c .before .before .before .before .fill-location .ensures in
-    (omega (arith, c .before .before .before .before .before .before .before .before .before .byte .ensures), r .0, r .1 ∙ c .before .before .before .before .before .before .before .before .loop .inv .2, r .2))
+    (omega (arith, c .before .before .before .before .before .before .before .before .before .from-byte .ensures), r .0, r .1 ∙ c .before .before .before .before .before .before .before .before .loop .inv .2, r .2))
     (λ c. c .before .loop .inv .3 .long ∙ sym (add-one _) ∙ sym (c .before .before .before .before .before .before .before .before .before .pre .1))
     (λ c. c .before .loop .inv .2)
     (λ c. let s = c .before .before .before .before .before .before .before .before .before in
     let o = c .before .loop .inv in
-    flow-end (s .pre .0) (omega (arith, c .before .before .byte .ensures)) (o .1) (rw (o .2) (s .pre .2)) (o .3)))
+    flow-end (s .pre .0) (omega (arith, c .before .before .from-byte .ensures)) (o .1) (rw (o .2) (s .pre .2)) (o .3)))

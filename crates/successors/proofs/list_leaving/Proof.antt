@@ -32,13 +32,13 @@ list-leaving-spec =
     (λ c. let s = c .before .before .before .before .before .before .before in
     let o = c .before .before .before .before .before .loop in
     let e : sourceOf (s .args .t1) (o .e) ≡ s .args .l
-    = ap (sourceOf (s .args .t1)) (sym (c .before .before .before .byte .ensures)) ∙ sym (c .before .byte2 .ensures) ∙ c .if1 .taken in
+    = ap (sourceOf (s .args .t1)) (sym (c .before .before .before .from-byte .ensures)) ∙ sym (c .before .from-byte2 .ensures) ∙ c .if1 .taken in
     (omega arith, listed-in (s .args .t1) (s .args .l) (o .inv .1) (omega arith) (s .pre .1) e))
     (λ c. search needs)
     (λ c. let s = c .before .before .before .before .before .before .before in
     let o = c .before .before .before .before .before .loop in
     let e : (sourceOf (s .args .t1) (o .e) ≡ s .args .l → ⊥)
-    = λ q. c .if1 .left (c .before .byte2 .ensures ∙ ap (sourceOf (s .args .t1)) (c .before .before .before .byte .ensures) ∙ q) in
+    = λ q. c .if1 .left (c .before .from-byte2 .ensures ∙ ap (sourceOf (s .args .t1)) (c .before .before .before .from-byte .ensures) ∙ q) in
     (omega arith, listed-out (s .args .t1) (s .args .l) (o .inv .1) (omega arith) e))
     (λ c. c .before .loop .inv .1 .same)
     (λ c. let s = c .before .before .before in listed-end (s .args .t1) (s .args .l) (c .before .loop .inv .1) (omega arith)))

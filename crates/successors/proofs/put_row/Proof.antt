@@ -52,8 +52,8 @@ put-row-spec =
       count-is (s .pre .0 .lawful) (s .pre .0 .listed),
       s .pre .0 .resets,
       s .pre .0 .flags,
-      edge-below (s .pre .0) (s .pre .1) a (c .before .before .before .loop-test .taken) (c .before .byte .ensures),
-      edge-here (s .pre .0) (s .pre .1) a (c .before .before .before .loop-test .taken) (c .before .byte .ensures),
+      edge-below (s .pre .0) (s .pre .1) a (c .before .before .before .loop-test .taken) (c .before .from-byte .ensures),
+      edge-here (s .pre .0) (s .pre .1) a (c .before .before .before .loop-test .taken) (c .before .from-byte .ensures),
       omega (arith, o .inv .1 .most, o .inv .1 .long, t .most, t .long, s .pre .3),
     ))
     (λ c. let s = c .before .before .before .before .before .before .before .before .before .before .before .before .before .before .before .before .before .before .before .before .before .before in
@@ -61,7 +61,7 @@ put-row-spec =
     (λ c. omega arith)
     (λ c. let s = c .before .before .before .before .before .before .before .before .before .before .before .before .before .before .before .before .before .before .before .before .before .before in
     let a = allowed-here (s .pre .0) (s .pre .1 .location) (s .pre .2) (c .before .before .before .before .before .before .before .before .before .before .before .before .unpack .ensures) (c .before .before .before .before .before .before .before .before .before .before .before .before .before .before .if1 .left) in
-    (omega arith, jumps-turn (s .pre .0) (s .pre .1) a (c .before .before .before .before .before .before .loop-test .taken) (c .before .before .before .before .byte .ensures) (c .before .before .before .before .before .before .before .loop .inv .1) (c .before .before .put-jump .ensures)))
+    (omega arith, jumps-turn (s .pre .0) (s .pre .1) a (c .before .before .before .before .before .before .loop-test .taken) (c .before .before .before .before .from-byte .ensures) (c .before .before .before .before .before .before .before .loop .inv .1) (c .before .before .put-jump .ensures)))
     (λ c. c .before .loop .inv .1 .long ∙ c .before .before .before .before .put-time .ensures .long)
     (λ c. let s = c .before .before .before .before .before .before .before .before .before .before .before .before .before .before .before .before in
     let a = allowed-here (s .pre .0) (s .pre .1 .location) (s .pre .2) (c .before .before .before .before .before .before .unpack .ensures) (c .before .before .before .before .before .before .before .before .if1 .left) in

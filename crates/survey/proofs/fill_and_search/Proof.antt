@@ -1,16 +1,31 @@
 -- `survey::fill_and_search` meets its contract.
 use borrow.Author.Needs.{needs}
+use mathlib.Core.Path.{_∙_}
+use Rattle.graph.proofs.States.{clocks-of, ceiling-of}
+use Rattle.region_corners.proofs.Shapes.{slotted, linked}
+use Rattle.tables.proofs.Lent.{regions-are, table-long}
 use Rattle.survey.proofs.fill_and_search.Statement.{statement}
 use Rattle.survey.proofs.fill_and_search.Tie as tie
 
 fill-tables-requires : tie.Need-fill-tables-requires
 fill-tables-requires c κs = search needs
 
+link-corners-requires : tie.Need-link-corners-requires
+link-corners-requires c κs =
+    let start = c .before .before .before .before .before .before .before .before .before .before .before .before .before .before .before .before .before .before .before .before .before .before .before in
+    let m = start .args .m in
+    let ok = start .pre .0 .0 in
+    slotted (table-long m ok _ (start .pre .0 .1) ∙ regions-are m ok) (c .before .before .before .before .before .before .before .before .before .fill-tables .ensures .by-region) (clocks-of m ok) (ceiling-of m ok)
+
 search-requires : tie.Need-search-requires
 search-requires c κs =
-    let start = c .before .before .before .before .before .before .before .before .before .before .before .before .before .before .before .before .before .before .before .before .before .before .before .before .before .before .before .before .before .before .before .before .before .before .before .before .before .before .before .before .before .before .before .before .before .before .before .before .before in
-    let tables = c .before .before .before .before .before .before .before .before .before .before .before .before .before .before .before .before .before .before .before .before .before .before .before .before .before .before .before .fill-tables .ensures in
-    ((start .pre .0 .0, tables .1, tables .2), start .pre .1 .1)
+    let start = c .before .before .before .before .before .before .before .before .before .before .before .before .before .before .before .before .before .before .before .before .before .before .before .before .before .before .before .before .before .before .before .before .before in
+    let m = start .args .m in
+    let ok = start .pre .0 .0 in
+    let tables = c .before .before .before .before .before .before .before .before .before .before .before .before .before .before .before .before .before .before .before .fill-tables .ensures in (
+      (ok, tables .by-state .flow, linked (table-long m ok _ (start .pre .0 .1) ∙ regions-are m ok) (tables .by-region) (c .before .before .before .before .before .before .before .before .before .link-corners .ensures)),
+      start .pre .1,
+    )
 
 same-length : tie.Need-same-length
 same-length c = search needs
@@ -36,26 +51,15 @@ same-length-7 c = search needs
 same-length-8 : tie.Need-same-length-8
 same-length-8 c = search needs
 
-same-length-9 : tie.Need-same-length-9
-same-length-9 c = search needs
-
-same-length-10 : tie.Need-same-length-10
-same-length-10 c = search needs
-
-same-length-11 : tie.Need-same-length-11
-same-length-11 c = search needs
-
-same-length-12 : tie.Need-same-length-12
-same-length-12 c = search needs
-
 returns : tie.Need-returns
-returns c = search needs
+returns c = c .before .before .before .before .before .before .before .before .search .ensures .surveyed
 
 pub fill-and-search-spec : {M : Type 1} → statement M
 fill-and-search-spec =
     tie.close
     (tie.spec
     fill-tables-requires
+    link-corners-requires
     search-requires
     same-length
     same-length-2
@@ -65,8 +69,4 @@ fill-and-search-spec =
     same-length-6
     same-length-7
     same-length-8
-    same-length-9
-    same-length-10
-    same-length-11
-    same-length-12
     returns)

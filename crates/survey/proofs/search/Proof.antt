@@ -1,69 +1,90 @@
 -- `survey::search` meets its contract.
-use Prim.Native.Nat.{ℕ}
-use mathlib.Core.Path.{subst, refl, sym, _∙_}
+use borrow.Author.Needs.{needs}
+use native.Mathlib.Omega.{arith}
+use Prim.Native.Nat.{ℕ, _*_}
+use mathlib.Core.Path.{subst, refl, sym, ap, _∙_}
+use Rattle.limits.specs.Limits.{maxLocations, pointCount}
 use Rattle.graph.specs.Plan.{systemOfModel}
 use Rattle.graph.proofs.Models.{system-laws}
-use Rattle.component.specs.Marks.{Marks}
-use Rattle.survey.proofs.Tables.{size-states, start-product, heights-of, asked, tables-by, component-shape}
-use native.Mathlib.Omega.{arith}
 use Rattle.graph.proofs.States.{clocks-of, ceiling-of}
-use Rattle.survey.proofs.Lent.{prefix-long}
-use borrow.Author.Needs.{needs}
+use Rattle.component.specs.Marks.{Marks}
+use Rattle.tables.proofs.Lent.{prefix-long}
+use Rattle.survey.proofs.Tables.{size-states, start-product, heights-of, asked, tables-by, component-shape}
 use Rattle.survey.proofs.search.Statement.{statement}
 use Rattle.survey.proofs.search.Tie as tie
 
 components-requires : tie.Need-components-requires
 components-requires c κs =
-    let start = c .before .before .before .before .before .before .before .before .before .before .before .before .before .before .before in
+    let start = c .before .before .before .before .before .before .before .before .before .before .before in
     let m = start .args .m in
+    let ok = start .pre .0 .0 in
     let long = start .pre .1 in (
-      rw (long .0) (component-shape m (start .pre .0 .0) _ _ (start .pre .0 .1)),
-      (refl, long .1 ∙ sym (long .0), long .2 ∙ sym (long .0), long .3 ∙ sym (long .0)),
+      rw (long .first) (component-shape m ok _ _ (start .pre .0 .1)),
+      (refl, long .second ∙ sym (long .first), long .third ∙ sym (long .first), long .fourth ∙ sym (long .first)),
     )
 
-cast-flags : tie.Need-cast-flags
-cast-flags c = search needs
+from-byte-requires : tie.Need-from-byte-requires
+from-byte-requires c κs = search needs
 
 mul-flags : tie.Need-mul-flags
-mul-flags c = search needs
+mul-flags c =
+    let start = c .before .before .before .before .before .before .before .before .before .before .before .before .before .before .before .before .before .before .before .before .before in
+    let m = start .args .m in
+    let ok = start .pre .0 .0 in
+    omega (arith, c .from-byte .ensures, ok .locations .1)
 
 count-requires : tie.Need-count-requires
 count-requires c κs =
-    let start = c .before .before .before .before .before .before .before .before .before .before .before .before .before .before .before .before .before .before .before .before .before .before .before .before .before in (clocks-of (start .args .m) (start .pre .0 .0), ceiling-of (start .args .m) (start .pre .0 .0))
+    let start = c .before .before .before .before .before .before .before .before .before .before .before .before .before .before .before .before .before .before .before .before .before in
+    let m = start .args .m in
+    let ok = start .pre .0 .0 in
+    (clocks-of m ok, ceiling-of m ok)
 
-cast-r : tie.Need-cast-r
-cast-r c = search needs
+from-short-requires : tie.Need-from-short-requires
+from-short-requires c κs = search needs
 
-cast-start : tie.Need-cast-start
-cast-start c = search needs
+from-byte-requires-2 : tie.Need-from-byte-requires-2
+from-byte-requires-2 c κs = search needs
 
 mul-start : tie.Need-mul-start
 mul-start c =
-    let start = c .before .before .before .before .before .before .before .before .before .before .before .before .before .before .before .before .before .before .before .before .before .before .before .before .before .before .before in
-    let count = c .before .count in
-    let b = start-product (start .args .m) (start .pre .0 .0) (count .result) (count .ensures) in
-    omega (arith, b)
+    let start = c .before .before .before .before .before .before .before .before .before .before .before .before .before .before .before .before .before .before .before .before .before .before .before .before in
+    let m = start .args .m in
+    let ok = start .pre .0 .0 in
+    let count = c .before .before .count in
+    let r = c .before .from-short in
+    let b = start-product m ok (r .result) (r .ensures ∙ count .ensures) in
+    rw (c .from-byte2 .ensures) (omega (arith, b))
 
 array-borrow-prefix-noted : tie.Need-array-borrow-prefix-noted
 array-borrow-prefix-noted c =
-    let start = c .before .before .before .before .before .before .before .before .before .before .before .before .before .before .before .before .before .before .before .before .before .before .before .before .before .before .before .before .before .before in omega (arith, start .pre .0 .0 .locations .1)
+    let start = c .before .before .before .before .before .before .before .before .before .before .before .before .before .before .before .before .before .before .before .before .before .before .before .before .before .before .before in
+    let m = start .args .m in
+    let ok = start .pre .0 .0 in
+    omega (arith, c .before .before .before .before .before .before .from-byte .ensures, ok .locations .1)
 
 slice-aggregate-distances : tie.Need-slice-aggregate-distances
 slice-aggregate-distances c =
-    let start = c .before .before .before .before .before .before .before .before .before .before .before .before .before .before .before .before .before .before .before .before .before .before .before .before .before .before .before .before .before .before .before in prefix-long _ 1728 (omega (arith, start .pre .0 .0 .locations .1))
+    let start = c .before .before .before .before .before .before .before .before .before .before .before .before .before .before .before .before .before .before .before .before .before .before .before .before .before .before .before .before in
+    let m = start .args .m in
+    let ok = start .pre .0 .0 in
+    prefix-long _ (maxLocations * pointCount) (omega (arith, c .before .before .before .before .before .before .before .from-byte .ensures, ok .locations .1))
 
 distances-requires : tie.Need-distances-requires
 distances-requires c κs =
-    let start = c .before .before .before .before .before .before .before .before .before .before .before .before .before .before .before .before .before .before .before .before .before .before .before .before .before .before .before .before .before .before .before in
+    let start = c .before .before .before .before .before .before .before .before .before .before .before .before .before .before .before .before .before .before .before .before .before .before .before .before .before .before .before .before in
     let m = start .args .m in
     let ok = start .pre .0 .0 in
-    let found = c .before .before .before .before .before .before .before .before .before .before .before .before .before .before .before .components in
-    asked m ok _ _ (start .pre .0 .1) _ _ _ _ _ (found .last .1 .1 .0) (start .pre .0 .2) _ (c .before .before .before .before .before .count .ensures)
+    let found = c .before .before .before .before .before .before .before .before .before .before .before .before .before .before .before .before .components in
+    let r = c .before .before .before .before .before .from-short in
+    let flags = c .before .before .before .before .before .before .before .from-byte .ensures in
+    rw (c .before .before .before .before .from-byte2 .ensures)
+    (asked m ok _ _ (start .pre .0 .1) _ (found .last .1 .1 .0) (start .pre .0 .2) _ (r .ensures ∙ c .before .before .before .before .before .before .count .ensures)
     (found .last .1 .1 .1 .0) (found .last .1 .1 .1 .1 .0) _
-    (found .kept .1 .1 .1 .0 ∙ start .pre .1 .1)
-    (found .kept .1 .1 .1 .1 .0 ∙ start .pre .1 .2)
-    (found .kept .1 .1 .0 ∙ start .pre .1 .0)
-    (sym (prefix-long _ 1728 (omega (arith, ok .locations .1))))
+    (found .kept .1 .1 .1 .0 ∙ start .pre .1 .second)
+    (found .kept .1 .1 .1 .1 .0 ∙ start .pre .1 .third)
+    (found .kept .1 .1 .0 ∙ start .pre .1 .first)
+    (sym (prefix-long _ (maxLocations * pointCount) (omega (arith, flags, ok .locations .1))) ∙ ap (λ (k : ℕ). k * pointCount) flags))
 
 same-length : tie.Need-same-length
 same-length c = search needs
@@ -79,17 +100,24 @@ same-length-4 c = search needs
 
 returns : tie.Need-returns
 returns c =
-    let start = c .before .before .before .before .before .before .before .before .before .before .before .before .before .before .before .before .before .before .before .before .before .before .before .before .before .before .before .before .before .before .before .before .before .before .before .before .before in
+    let start = c .before .before .before .before .before .before .before .before .before .before .before .before .before .before .before .before .before .before .before .before .before .before .before .before .before .before .before .before .before .before .before .before .before .before in
     let m = start .args .m in
     let ok = start .pre .0 .0 in
-    let found = c .before .before .before .before .before .before .before .before .before .before .before .before .before .before .before .before .before .before .before .before .before .components in
+    let found = c .before .before .before .before .before .before .before .before .before .before .before .before .before .before .before .before .before .before .before .before .before .before .components in
     let flow = start .pre .0 .1 in
-    let marks = subst (λ (n : ℕ). Marks (start .args .first .now) (start .args .targets .now) n (found .last .1 .1 .0)) (start .pre .1 .0) (found .ensures) in
-    let heights = heights-of m ok _ _ flow (found .last .1 .1 .0) (found .kept .1 .1 .0 ∙ start .pre .1 .0) marks in
+    let r = c .before .before .before .before .before .before .before .before .before .before .before .from-short in
+    let marks = subst (λ (n : ℕ). Marks (start .args .first .now) (start .args .targets .now) n (found .last .1 .1 .0)) (start .pre .1 .first) (found .ensures) in
+    let hs = heights-of m ok _ _ flow (found .last .1 .1 .0) (found .kept .1 .1 .0 ∙ start .pre .1 .first) marks in
+    let searched = c .before .before .before .before .before .distances .ensures in
     record {
-      heights = heights;
-      distances = c .before .before .before .before .before .distances .ensures (systemOfModel m) (system-laws m ok) (size-states m ok ∙ sym (found .kept .1 .1 .1 .0 ∙ start .pre .1 .1))
-          (tables-by m ok _ _ flow _ _ _ _ _ (found .last .1 .1 .0) (start .pre .0 .2) _ (c .before .before .before .before .before .before .before .before .before .before .before .count .ensures) heights) .0;
+      surveyed =
+          record {
+            heights = hs;
+            distances = searched .distances (systemOfModel m) (system-laws m ok) (size-states m ok ∙ sym (c .before .before .before .before .before .distances .kept .1 .1 .1 .1 .1 .1 .0 ∙ found .kept .1 .1 .1 .0 ∙ start .pre .1 .second))
+                (rw (c .before .before .before .before .before .before .before .before .before .before .from-byte2 .ensures)
+                (tables-by m ok _ _ flow _ (found .last .1 .1 .0) (start .pre .0 .2) _ (r .ensures ∙ c .before .before .before .before .before .before .before .before .before .before .before .before .count .ensures) hs));
+          };
+      order = searched .order;
     }
 
 pub search-spec : {M : Type 1} → statement M
@@ -97,11 +125,11 @@ search-spec =
     tie.close
     (tie.spec
     components-requires
-    cast-flags
+    from-byte-requires
     mul-flags
     count-requires
-    cast-r
-    cast-start
+    from-short-requires
+    from-byte-requires-2
     mul-start
     array-borrow-prefix-noted
     slice-aggregate-distances

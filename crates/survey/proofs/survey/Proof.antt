@@ -1,6 +1,7 @@
 -- `survey::survey` meets its contract.
-use Rattle.region.proofs.Known.{front-selected, front-length}
 use borrow.Author.Needs.{needs}
+use native.Mathlib.Omega.{arith}
+use Rattle.region_table.proofs.Listed.{front-selected, front-length}
 use Rattle.survey.proofs.survey.Statement.{statement}
 use Rattle.survey.proofs.survey.Tie as tie
 
@@ -13,15 +14,30 @@ select-requires c κs = search needs
 array-share-prefix-table : tie.Need-array-share-prefix-table
 array-share-prefix-table c = search needs
 
-slice-aggregate-survey-regions : tie.Need-slice-aggregate-survey-regions
-slice-aggregate-survey-regions c =
-    let s = c .before .before .select in front-length _ _ _ _ _ (s .ensures .0) (s .ensures .1 .0)
+slice-aggregate-survey-small : tie.Need-slice-aggregate-survey-small
+slice-aggregate-survey-small c =
+    let s = c .before .before .before .select in
+    front-length _ _ _ _ _ (s .ensures .0) (s .ensures .1 .0)
 
-survey-regions-requires : tie.Need-survey-regions-requires
-survey-regions-requires c κs =
-    let start = c .before .before .before .before .before .before .before .before .before .before .before .before in
-    let s = c .before .before .before .before .before .before .select in
-    ((start .pre .0, front-selected _ _ _ _ _ (s .ensures .0) (s .ensures .1 .0)), start .pre .1)
+survey-small-requires : tie.Need-survey-small-requires
+survey-small-requires c κs =
+    let start = c .before .before .before .before .before .before .before .before .before .before .before .before .before in
+    let s = c .before .before .before .before .before .before .before .select in
+    ((start .pre .0, front-selected _ _ _ _ _ (s .ensures .0) (s .ensures .1 .0), start .pre .1), rw (← front-length _ _ _ _ _ (s .ensures .0) (s .ensures .1 .0)) (c .before .before .before .before .before .if1 .taken))
+
+array-share-prefix-table-2 : tie.Need-array-share-prefix-table-2
+array-share-prefix-table-2 c = search needs
+
+slice-aggregate-survey-large : tie.Need-slice-aggregate-survey-large
+slice-aggregate-survey-large c =
+    let s = c .before .before .before .select in
+    front-length _ _ _ _ _ (s .ensures .0) (s .ensures .1 .0)
+
+survey-large-requires : tie.Need-survey-large-requires
+survey-large-requires c κs =
+    let start = c .before .before .before .before .before .before .before .before .before .before .before .before .before in
+    let s = c .before .before .before .before .before .before .before .select in
+    (start .pre .0, front-selected _ _ _ _ _ (s .ensures .0) (s .ensures .1 .0), start .pre .1)
 
 same-length : tie.Need-same-length
 same-length c = search needs
@@ -38,6 +54,21 @@ same-length-4 c = search needs
 returns : tie.Need-returns
 returns c = search needs
 
+same-length-5 : tie.Need-same-length-5
+same-length-5 c = search needs
+
+same-length-6 : tie.Need-same-length-6
+same-length-6 c = search needs
+
+same-length-7 : tie.Need-same-length-7
+same-length-7 c = search needs
+
+same-length-8 : tie.Need-same-length-8
+same-length-8 c = search needs
+
+returns-2 : tie.Need-returns-2
+returns-2 c = search needs
+
 pub survey-spec : {M : Type 1} → statement M
 survey-spec =
     tie.close
@@ -45,10 +76,18 @@ survey-spec =
     slice-aggregate-select
     select-requires
     array-share-prefix-table
-    slice-aggregate-survey-regions
-    survey-regions-requires
+    slice-aggregate-survey-small
+    survey-small-requires
+    array-share-prefix-table-2
+    slice-aggregate-survey-large
+    survey-large-requires
     same-length
     same-length-2
     same-length-3
     same-length-4
-    returns)
+    returns
+    same-length-5
+    same-length-6
+    same-length-7
+    same-length-8
+    returns-2)

@@ -23,20 +23,20 @@ loop-holds c =
     let R = start .pre .0 in
     (omega arith, refl, refl, refl, refl, record { ready = R; going = going-first (start .args .m) (R .lawful) (start .pre .1); room = start .pre .3 })
 
-mul-wide : tie.Need-mul-wide Inv-loop μ-loop
-mul-wide c = search needs
+mul-from-word : tie.Need-mul-from-word Inv-loop μ-loop
+mul-from-word c = search needs
 
-shared-slice-read-wide : tie.Need-shared-slice-read-wide Inv-loop μ-loop
-shared-slice-read-wide c = search needs
+shared-slice-read-from-word : tie.Need-shared-slice-read-from-word Inv-loop μ-loop
+shared-slice-read-from-word c = search needs
 
-wide-requires : tie.Need-wide-requires Inv-loop μ-loop
-wide-requires c κs = search needs
+from-word-requires : tie.Need-from-word-requires Inv-loop μ-loop
+from-word-requires c κs = search needs
 
 put-move-requires : tie.Need-put-move-requires Inv-loop μ-loop
 put-move-requires c κs =
     let inv = c .before .before .before .before .before .before .before .loop .inv in
     let M = inv .5 in
-    let at = moving-step M _ (c .before .before .before .before .before .before .loop-test .taken) (c .before .before .before .before .wide .ensures) in
+    let at = moving-step M _ (c .before .before .before .before .before .before .loop-test .taken) (c .before .before .before .before .from-word .ensures) in
     (rw (inv .1, inv .2, inv .3) (M .ready), at .0, at .1, at .2, at .3)
 
 add-i : tie.Need-add-i Inv-loop μ-loop
@@ -56,7 +56,7 @@ loop-again c =
       search needs,
       search needs,
       put .ensures .long ∙ inv .4,
-      moving-next (inv .5) _ taken (c .before .before .before .before .before .before .before .before .before .before .before .before .before .wide .ensures) (put .ensures),
+      moving-next (inv .5) _ taken (c .before .before .before .before .before .before .before .before .before .before .before .before .before .from-word .ensures) (put .ensures),
     )
 
 same-length : tie.Need-same-length Inv-loop μ-loop
@@ -84,9 +84,9 @@ put-moves-spec =
     Inv-loop
     μ-loop
     loop-holds
-    mul-wide
-    shared-slice-read-wide
-    wide-requires
+    mul-from-word
+    shared-slice-read-from-word
+    from-word-requires
     put-move-requires
     add-i
     loop-less

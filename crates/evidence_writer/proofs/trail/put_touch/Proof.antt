@@ -4,7 +4,7 @@ use native.Mathlib.Omega.{arith}
 use lib.Seq.{length-take-le}
 use borrow.Author.Needs.{needs}
 use Rattle.spelling.proofs.Lays.{lays-then, lays-as}
-use Rattle.closed_walk.proofs.Graph.{holds-rows}
+use Rattle.search.proofs.Rows.{holds-rows}
 use Rattle.evidence_writer.proofs.Moves.{size-few, count-few, nodes-below, touch-as, touch-room}
 use Rattle.evidence_writer.proofs.trail.put_touch.Statement.{statement}
 use Rattle.evidence_writer.proofs.trail.put_touch.Tie as tie

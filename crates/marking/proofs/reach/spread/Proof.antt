@@ -1,11 +1,10 @@
 -- `marking::reach::spread` meets its contract: the three parts are all that p leads to.
 use Prim.Native.Nat.{_/_}
 use mathlib.Core.Path.{_∙_}
-use native.Mathlib.Nat.{mod-lt}
-use borrow.Author.Needs.{needs}
 use native.Mathlib.Omega.{arith}
-use Rattle.marking.proofs.Queue.{takes-queue}
-use Rattle.marking.proofs.Parts.{location-below, location-states, notes-more, leads-all}
+use Rattle.search.proofs.Queue.{takes-queue}
+use Rattle.marking.proofs.Corners.{location-states, ready-more}
+use Rattle.marking.proofs.Leading.{region-below, location-below, leads-all}
 use Rattle.marking.proofs.reach.spread.Statement.{statement}
 use Rattle.marking.proofs.reach.spread.Tie as tie
 
@@ -13,53 +12,43 @@ pub spread-spec : {M : Type 1} → statement M
 spread-spec =
     tie.close
     (tie.spec
-    (λ c. search needs)
-    (λ c. search needs)
+    (λ c. omega (arith, c .before .before .before .before .before .before .before .pre .2 .tables .some))
+    (λ c. omega (arith, c .before .before .before .before .before .before .before .pre .2 .tables .some))
     (λ c κs.
-    let p = c .before .before .before .before .before .before .before .before .before .before .before .before .before .pre in
-    (p .0, p .1, p .2 .flow, p .4))
+    let p = c .before .before .before .before .before .before .before .before .before .pre in
+    (p .2 .small, p .0, p .1, p .2 .fits))
     (λ c κs.
-    let a = c .before .before .before .before .before .before .before .before .before .before .before .before .before .before .before .before .before .before .before .before .args in
-    let p = c .before .before .before .before .before .before .before .before .before .before .before .before .before .before .before .before .before .before .before .before .pre in
-    let A = c .before .before .before .before .before .before .take-flow .ensures .takes in (
-      p .0,
-      omega (arith, location-states (p .2 .corners) (a .p / a .regions) (location-below (p .2) (a .p) (p .1)), A .long),
-      mod-lt (a .p)
-          (p .2 .some),
-      p .2 .face,
-      A .fits,
-    ))
+    let a = c .before .before .before .before .before .before .before .before .before .before .before .before .before .before .before .before .args in
+    let p = c .before .before .before .before .before .before .before .before .before .before .before .before .before .before .before .before .pre in
+    let T = p .2 .tables in
+    let A = c .before .before .before .before .before .before .take-row .ensures .takes in
+    (p .2 .small, rw (A .long) (location-states T (a .p / a .regions) (location-below T (a .p) (p .0))), region-below T (a .p), T .faces, A .fits))
     (λ c κs.
-    let a = c .before .before .before .before .before .before .before .before .before .before .before .before .before .before .before .before .before .before .before .before .before .before .before .before .before .before .before .before .args in
-    let p = c .before .before .before .before .before .before .before .before .before .before .before .before .before .before .before .before .before .before .before .before .before .before .before .before .before .before .before .before .pre in
-    let A = c .before .before .before .before .before .before .before .before .before .before .before .before .before .before .take-flow .ensures .takes in
-    let B = c .before .before .before .before .before .before .before .take-faces .ensures .takes in (
-      p .0,
-      omega (arith, location-below (p .2) (a .p) (p .1), A .long, B .long),
-      mod-lt (a .p) (p .2 .some),
-      rw (B .long ∙ A .long) (p .2 .corners),
-      notes-more (notes-more (p .3) A) B,
-      B .fits,
-    ))
+    let a = c .before .before .before .before .before .before .before .before .before .before .before .before .before .before .before .before .before .before .before .before .before .before .before .before .args in
+    let p = c .before .before .before .before .before .before .before .before .before .before .before .before .before .before .before .before .before .before .before .before .before .before .before .before .pre in
+    let T = p .2 .tables in
+    let A = c .before .before .before .before .before .before .before .before .before .before .before .before .before .before .take-row .ensures .takes in
+    let B = c .before .before .before .before .before .before .before .take-faces .ensures .takes in
+    (rw (B .long, A .long) (location-below T (a .p) (p .0)), region-below T (a .p), ready-more (ready-more (p .2) A) B))
     (λ c.
-    let a = c .before .before .before .before .before .before .before .before .before .before .before .before .before .before .before .before .before .before .before .before .before .before .before .before .before .before .before .before .before .before .before .before .before .before .before .args in
-    let p = c .before .before .before .before .before .before .before .before .before .before .before .before .before .before .before .before .before .before .before .before .before .before .before .before .before .before .before .before .before .before .before .before .before .before .before .pre in
-    let A = c .before .before .before .before .before .before .before .before .before .before .before .before .before .before .before .before .before .before .before .before .before .take-flow .ensures in
+    let a = c .before .before .before .before .before .before .before .before .before .before .before .before .before .before .before .before .before .before .before .before .before .before .before .before .before .before .before .before .before .before .before .args in
+    let p = c .before .before .before .before .before .before .before .before .before .before .before .before .before .before .before .before .before .before .before .before .before .before .before .before .before .before .before .before .before .before .before .pre in
+    let A = c .before .before .before .before .before .before .before .before .before .before .before .before .before .before .before .before .before .before .before .before .before .take-row .ensures in
     let B = c .before .before .before .before .before .before .before .before .before .before .before .before .before .before .take-faces .ensures in
     let D = c .before .before .before .before .before .before .take-corners .ensures in
-    D .0 .takes .long ∙ (B .takes .long ∙ A .takes .long))
+    D .all .takes .long ∙ (B .takes .long ∙ A .takes .long))
     (λ c.
-    let a = c .before .before .before .before .before .before .before .before .before .before .before .before .before .before .before .before .before .before .before .before .before .before .before .before .before .before .before .before .before .before .before .before .before .before .before .args in
-    let p = c .before .before .before .before .before .before .before .before .before .before .before .before .before .before .before .before .before .before .before .before .before .before .before .before .before .before .before .before .before .before .before .before .before .before .before .pre in
-    let A = c .before .before .before .before .before .before .before .before .before .before .before .before .before .before .before .before .before .before .before .before .before .take-flow .ensures in
+    let a = c .before .before .before .before .before .before .before .before .before .before .before .before .before .before .before .before .before .before .before .before .before .before .before .before .before .before .before .before .before .before .before .args in
+    let p = c .before .before .before .before .before .before .before .before .before .before .before .before .before .before .before .before .before .before .before .before .before .before .before .before .before .before .before .before .before .before .before .pre in
+    let A = c .before .before .before .before .before .before .before .before .before .before .before .before .before .before .before .before .before .before .before .before .before .take-row .ensures in
     let B = c .before .before .before .before .before .before .before .before .before .before .before .before .before .before .take-faces .ensures in
     let D = c .before .before .before .before .before .before .take-corners .ensures in
-    takes-queue (leads-all (p .2) (a .p) (p .1) A B (D .0) .takes) (p .4))
-    (λ c. c .before .before .before .before .before .before .take-corners .kept .1 .1 .1 .1 .1 .0)
+    takes-queue (leads-all (p .2 .tables) (a .p) A B (D .all) .takes) (p .2 .fits))
+    (λ c. c .before .before .before .before .before .before .take-corners .kept .1 .1 .1 .0)
     (λ c.
-    let a = c .before .before .before .before .before .before .before .before .before .before .before .before .before .before .before .before .before .before .before .before .before .before .before .before .before .before .before .before .before .before .before .before .before .before .before .args in
-    let p = c .before .before .before .before .before .before .before .before .before .before .before .before .before .before .before .before .before .before .before .before .before .before .before .before .before .before .before .before .before .before .before .before .before .before .before .pre in
-    let A = c .before .before .before .before .before .before .before .before .before .before .before .before .before .before .before .before .before .before .before .before .before .take-flow .ensures in
+    let a = c .before .before .before .before .before .before .before .before .before .before .before .before .before .before .before .before .before .before .before .before .before .before .before .before .before .before .before .before .before .before .before .args in
+    let p = c .before .before .before .before .before .before .before .before .before .before .before .before .before .before .before .before .before .before .before .before .before .before .before .before .before .before .before .before .before .before .before .pre in
+    let A = c .before .before .before .before .before .before .before .before .before .before .before .before .before .before .before .before .before .before .before .before .before .take-row .ensures in
     let B = c .before .before .before .before .before .before .before .before .before .before .before .before .before .before .take-faces .ensures in
     let D = c .before .before .before .before .before .before .take-corners .ensures in
-    (leads-all (p .2) (a .p) (p .1) A B (D .0), D .1)))
+    record { all = leads-all (p .2 .tables) (a .p) A B (D .all); notes = D .notes }))

@@ -1,10 +1,11 @@
 -- `marking::reach::take_corner` meets its contract: the chain of a point is followed, or its flag says that this was done before.
 use Prim.Native.Nat.{_+_, _*_, _<_}
-use lib.ListN.{length, getD}
-use borrow.Author.Needs.{needs}
 use native.Mathlib.Omega.{arith}
-use Rattle.marking.proofs.Queue.{takes-none, takes-queue}
-use Rattle.marking.proofs.Parts.{point-chain, point-all, slot-state, point-below, flag-below, flag-old, flag-new}
+use lib.ListN.{getD, length-set}
+use borrow.Author.Needs.{needs}
+use Rattle.limits.specs.Limits.{pointCount}
+use Rattle.search.proofs.Queue.{takes-none, takes-queue}
+use Rattle.marking.proofs.Corners.{slot-point, slot-point-below, flag-old, flag-new, flag-below}
 use Rattle.marking.proofs.reach.take_corner.Statement.{statement}
 use Rattle.marking.proofs.reach.take_corner.Tie as tie
 
@@ -12,69 +13,49 @@ pub take-corner-spec : {M : Type 1} → statement M
 take-corner-spec =
     tie.close
     (tie.spec
-    (λ c. search needs)
-    (λ c. search needs)
+    (λ c κs. c .before .before .before .before .before .pre .2 .tables .faces .regions)
+    (λ c. omega (arith, c .corners-at .ensures, c .before .before .before .before .before .before .pre .2 .tables .faces .regions))
+    (λ c. omega (arith, c .corners-at .ensures, c .before .before .before .before .before .before .pre .2 .tables .faces .long))
+    (λ c. omega (arith, c .before .corners-at .ensures, c .before .before .before .before .before .before .before .pre .2 .tables .faces .long))
     (λ c κs. search needs)
     (λ c.
-    let a = c .before .before .before .before .before .before .before .before .before .args in
-    let p = c .before .before .before .before .before .before .before .before .before .pre in
-    omega (arith, flag-below (p .3) (a .location) (p .1) (a .slot) (p .2)))
+    let p = c .before .before .before .before .before .before .before .before .pre in
+    let a = c .before .before .before .before .before .before .before .before .args in
+    let v = slot-point-below (p .2 .tables) (c .before .before .corners-at .ensures) (p .1) (c .from-word .ensures) in
+    omega (arith, flag-below (p .2) (a .location) (c .from-word .result) (p .0) v))
     (λ c.
-    let a = c .before .before .before .before .before .before .before .before .before .args in
-    let p = c .before .before .before .before .before .before .before .before .before .pre in
-    omega (arith, flag-below (p .3) (a .location) (p .1) (a .slot) (p .2), c .wide .ensures))
+    let p = c .before .before .before .before .before .before .before .before .pre in
+    let a = c .before .before .before .before .before .before .before .before .args in
+    let v = slot-point-below (p .2 .tables) (c .before .before .corners-at .ensures) (p .1) (c .from-word .ensures) in
+    omega (arith, flag-below (p .2) (a .location) (c .from-word .result) (p .0) v))
     (λ c.
-    let a = c .before .before .before .before .before .before .before .before .before .before .args in
+    let p = c .before .before .before .before .before .before .before .before .before .pre in
+    let a = c .before .before .before .before .before .before .before .before .before .args in
+    let v = slot-point-below (p .2 .tables) (c .before .before .before .corners-at .ensures) (p .1) (c .before .from-word .ensures) in
+    omega (arith, flag-below (p .2) (a .location) (c .before .from-word .result) (p .0) v))
+    (λ c.
     let p = c .before .before .before .before .before .before .before .before .before .before .pre in
-    omega (arith, flag-below (p .3) (a .location) (p .1) (a .slot) (p .2), c .before .wide .ensures))
-    (λ c.
-    let a = c .before .before .before .before .before .before .before .before .before .before .before .args in
-    let p = c .before .before .before .before .before .before .before .before .before .before .before .pre in
-    omega (arith, flag-below (p .3) (a .location) (p .1) (a .slot) (p .2), c .before .before .wide .ensures))
-    (λ c.
-    let a = c .before .before .before .before .before .before .before .before .before .before .before .args in
-    let p = c .before .before .before .before .before .before .before .before .before .before .before .pre in
-    omega (arith, point-below (p .3) (a .location) (p .1) (a .slot) (p .2), c .before .before .wide .ensures))
-    (λ c.
-    let a = c .before .before .before .before .before .before .before .before .before .before .before .before .args in
-    let p = c .before .before .before .before .before .before .before .before .before .before .before .before .pre in
-    omega (arith, point-below (p .3) (a .location) (p .1) (a .slot) (p .2), c .before .before .before .wide .ensures))
-    (λ c.
-    let a = c .before .before .before .before .before .before .before .before .before .before .before .before .args in
-    let p = c .before .before .before .before .before .before .before .before .before .before .before .before .pre in
-    omega (arith, p .1, p .5 .limit))
+    let a = c .before .before .before .before .before .before .before .before .before .before .args in
+    let v = slot-point-below (p .2 .tables) (c .before .before .before .before .corners-at .ensures) (p .1) (c .before .before .from-word .ensures) in
+    omega (arith, flag-below (p .2) (a .location) (c .before .before .from-word .result) (p .0) v))
     (λ c κs.
-    let a = c .before .before .before .before .before .before .before .before .before .before .before .before .before .before .args in
-    let p = c .before .before .before .before .before .before .before .before .before .before .before .before .before .before .pre in
-    let v = c .before .before .before .before .before .wide in
-    let b : v .result < length (a .head .now) = omega (arith, point-below (p .3) (a .location) (p .1) (a .slot) (p .2), v .ensures) in (
-      p .0,
-      λ s l. slot-state (p .3) (a .location) (p .1) s (omega (arith, p .3 .chains .long)),
-      p .3 .info-long,
-      point-chain (p .3 .chains)
-          (a .info .now) (a .location * a .regions) (v .result) b,
-      p .5,
-    ))
-    (λ c. search needs)
-    (λ c. c .before .before .before .before .take-chain .ensures .takes .long)
-    (λ c. takes-queue (c .before .before .before .before .take-chain .ensures .takes)
-    (c .before .before .before .before .before .before .before .before .before .before .before .before .before .before .before .before .before .before .before .pre .5))
+    let p = c .before .before .before .before .before .before .before .before .before .before .before .before .pre in
+    (p .2 .small, p .0, slot-point-below (p .2 .tables) (c .before .before .before .before .before .before .corners-at .ensures) (p .1) (c .before .before .before .before .from-word .ensures), p .2 .tables, p .2 .fits))
+    (λ c. simp length-set)
+    (λ c. c .before .before .before .before .take-point .ensures .takes .long)
+    (λ c. takes-queue (c .before .before .before .before .take-point .ensures .takes) (c .before .before .before .before .before .before .before .before .before .before .before .before .before .before .before .before .before .pre .2 .fits))
     (λ c.
-    let a = c .before .before .before .before .before .before .before .before .before .before .before .before .before .before .before .before .before .before .before .args in
-    let p = c .before .before .before .before .before .before .before .before .before .before .before .before .before .before .before .before .before .before .before .pre in
-    let v = c .before .before .before .before .before .before .before .before .before .before .wide in
-    let b = point-below (p .3) (a .location) (p .1) (a .slot) (p .2) in
-    let A = point-all (p .3 .chains) (a .info .now) (a .location * a .regions) (getD (a .corner .now) (a .slot) 0) b
-    (rw (v .ensures) at (c .before .before .before .before .take-chain .ensures)) in
-    (A, rw (v .ensures) (flag-new (p .3) (a .location) (p .1) (a .slot) (p .2) (p .4) A)))
+    let p = c .before .before .before .before .before .before .before .before .before .before .before .before .before .before .before .before .before .pre in
+    let a = c .before .before .before .before .before .before .before .before .before .before .before .before .before .before .before .before .before .args in
+    let T = p .2 .tables in
+    let e = slot-point T (c .before .before .before .before .before .before .before .before .before .before .before .corners-at .ensures) (p .1) (c .before .before .before .before .before .before .before .before .before .from-word .ensures) in
+    let v = slot-point-below T (c .before .before .before .before .before .before .before .before .before .before .before .corners-at .ensures) (p .1) (c .before .before .before .before .before .before .before .before .before .from-word .ensures) in
+    record { all = rw e at (c .before .before .before .before .take-point .ensures); notes = flag-new (a .location) (c .before .before .before .before .before .before .before .before .before .from-word .result) v (p .2 .notes) (c .before .before .before .before .take-point .ensures) })
     (λ c.
-    let a = c .before .before .before .before .before .before .before .before .before .before .before .args in
-    let p = c .before .before .before .before .before .before .before .before .before .before .before .pre in (
-      record {
-        takes = takes-none (p .5);
-        covers = flag-old (p .3) (a .location) (p .1) (a .slot) (p .2) (p .4)
-            (rw (c .before .before .wide .ensures) at (let h : 0 < getD (a .noted .now)
-            (a .location * length (a .head .now) + c .before .before .wide .result) 0 = omega arith in h));
-      },
-      p .4,
-    )))
+    let p = c .before .before .before .before .before .before .before .before .before .before .pre in
+    let a = c .before .before .before .before .before .before .before .before .before .before .args in
+    let T = p .2 .tables in
+    let e = slot-point T (c .before .before .before .before .corners-at .ensures) (p .1) (c .before .before .from-word .ensures) in
+    let v = slot-point-below T (c .before .before .before .before .corners-at .ensures) (p .1) (c .before .before .from-word .ensures) in
+    let h : 0 < getD (a .noted .now) (a .location * pointCount + c .before .before .from-word .result) 0 = omega arith in
+    record { all = record { takes = takes-none (p .2 .fits); covers = rw e at (flag-old (a .location) (c .before .before .from-word .result) v (p .2 .notes) h) }; notes = p .2 .notes }))

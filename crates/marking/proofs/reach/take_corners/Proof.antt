@@ -2,22 +2,26 @@
 use Prim.Native.Nat.{_*_, _-_, _≤_}
 use mathlib.Core.Path.{_≡_, refl, _∙_}
 use lib.ListN.{length}
-use borrow.Author.Needs.{needs}
 use native.Mathlib.Omega.{arith}
-use Rattle.marking.specs.Queue.{Touches, Notes}
-use Rattle.marking.proofs.Queue.{Partly, partly-first, takes-queue, between-turn, between-end}
+use borrow.Author.Needs.{needs}
+use Rattle.limits.specs.Limits.{slotCount}
+use Rattle.shapes.specs.Layout.{cornersIn}
+use Rattle.search.proofs.Queue.{Partly, partly-first, takes-queue, between-turn, between-end}
+use Rattle.marking.specs.Corners.{Touches, Notes}
+use Rattle.marking.proofs.Corners.{ready-next}
 use Rattle.marking.proofs.reach.take_corners.Statement.{statement}
 use Rattle.marking.proofs.reach.take_corners.Tie as tie
 
 abbrev Inv-loop : tie.InvT-loop
-Inv-loop regions corner head link info noted₀ far₀ queue₀ x location i n end₀ k₀ noted far queue end k =
-    (k ≤ 4)
+Inv-loop regions shapes heights noted₀ distance₀ queue₀ x location i n end₀ k₀ noted distance queue end k =
+    (k ≤ slotCount)
     × (length noted ≡ length noted₀)
-    × Partly x (Touches corner info (location * regions) i 0) (Touches corner info (location * regions) i k) far₀ far queue₀ queue n end
-    × Notes regions (length head) corner info noted far
+    × Partly x (Touches (cornersIn regions shapes) heights (location * regions) i 0) (Touches (cornersIn regions shapes) heights (location * regions) i k)
+    distance₀ distance queue₀ queue n end
+    × Notes regions (cornersIn regions shapes) heights noted distance
 
 abbrev μ-loop : tie.MeasureT-loop
-μ-loop regions corner head link info noted₀ far₀ queue₀ x location i n end₀ k₀ noted far queue end k = 4 - k
+μ-loop regions shapes heights noted₀ distance₀ queue₀ x location i n end₀ k₀ noted distance queue end k = slotCount - k
 
 pub take-corners-spec : {M : Type 1} → statement M
 take-corners-spec =
@@ -25,28 +29,23 @@ take-corners-spec =
     (tie.spec
     Inv-loop
     μ-loop
-    (λ c. (
-      omega arith,
-      refl,
-      partly-first (c .before .before .before .before .before .before .before .pre .5),
-      c .before .before .before .before .before .before .before .pre .4,
-    ))
-    (λ c. omega (arith, c .before .before .before .before .before .before .before .before .before .pre .3 .corner-long))
-    (λ c. omega (arith, c .before .before .before .before .before .before .before .before .before .pre .3 .corner-long))
+    (λ c. (omega arith, refl, partly-first (c .before .before .before .before .before .pre .2 .fits), c .before .before .before .before .before .pre .2 .notes))
+    (λ c. omega (arith, c .before .before .before .before .before .before .before .pre .2 .tables .faces .regions))
+    (λ c. omega (arith, c .before .before .before .before .before .before .before .pre .2 .tables .faces .regions))
     (λ c κs.
-    let p = c .before .before .before .before .before .before .before .before .before .before .before .before .pre in
-    let l = c .before .before .before .before .loop in
-    let k = l .inv .2 .takes in
-    (p .0, rw (k .long) (p .1), omega (arith, p .3 .corner-long), rw (k .long, l .inv .1) (p .3), l .inv .3, k .fits))
+    let p = c .before .before .before .before .before .before .before .before .before .before .pre in
+    let i = c .before .before .before .before .loop .inv in
+    let A = i .2 .takes in
+    (rw (A .long) (p .0), omega arith, ready-next (p .2) (i .1) A (i .3)))
     (λ c. search needs)
     (λ c. search needs)
     (λ c.
-    let l = c .before .before .before .before .before .before .before .before .before .before .before .loop in
+    let i = c .before .before .before .before .before .before .before .before .before .before .before .loop .inv in
     let t = c .before .before .before .before .before .before .take-corner in
-    (omega arith, t .kept .1 .1 .1 .1 .1 .0 ∙ l .inv .1, between-turn (l .inv .2) (omega arith) (omega arith) (t .ensures .0), t .ensures .1))
+    (omega arith, t .kept .1 .1 .1 .0 ∙ i .1, between-turn (i .2) (omega arith) (omega arith) (t .ensures .all), t .ensures .notes))
     (λ c. c .before .loop .inv .1)
     (λ c. c .before .loop .inv .2 .takes .long)
-    (λ c. takes-queue (c .before .loop .inv .2 .takes) (c .before .before .before .before .before .before .before .before .before .pre .5))
+    (λ c. takes-queue (c .before .loop .inv .2 .takes) (c .before .before .before .before .before .before .before .pre .2 .fits))
     (λ c.
     let i = c .before .loop .inv in
-    (between-end (i .2) (omega arith), i .3)))
+    record { all = between-end (i .2) (omega arith); notes = i .3 }))

@@ -13,13 +13,13 @@ use Rattle.marking.proofs.tally.fewest.Statement.{statement}
 use Rattle.marking.proofs.tally.fewest.Tie as tie
 
 abbrev Inv-loop : tie.InvT-loop
-Inv-loop far kind regions d₀ p₀ d p =
-    (p ≤ length far)
-    × (d ≤ length far)
-    × Fewest (length far) (λ y. eqb (getD kind (y / regions) 0) 1) (λ y. getD far y 0) p d
+Inv-loop distance kind regions d₀ p₀ d p =
+    (p ≤ length distance)
+    × (d ≤ length distance)
+    × Fewest (length distance) (λ y. eqb (getD kind (y / regions) 0) 1) (λ y. getD distance y 0) p d
 
 abbrev μ-loop : tie.MeasureT-loop
-μ-loop far kind regions d₀ p₀ d p = length far - p
+μ-loop distance kind regions d₀ p₀ d p = length distance - p
 
 pub fewest-spec : {M : Type 1} → statement M
 fewest-spec =
@@ -30,9 +30,9 @@ fewest-spec =
     (λ c. (
       omega arith,
       omega arith,
-      fewest-first (length (c .before .before .args .far .now))
+      fewest-first (length (c .before .before .args .distance .now))
           (λ y. eqb (getD (c .before .before .args .kind .now) (y / c .before .before .args .regions) 0) 1)
-          (λ y. getD (c .before .before .args .far .now) y 0),
+          (λ y. getD (c .before .before .args .distance .now) y 0),
     ))
     (λ c κs.
     let p = c .before .before .before .before .pre in (
@@ -48,13 +48,13 @@ fewest-spec =
     let l = c .before .before .loop in (
       omega arith,
       omega (arith, c .lower .ensures .less),
-      fewest-next (length (c .before .before .before .before .before .args .far .now))
+      fewest-next (length (c .before .before .before .before .before .args .distance .now))
           (λ y. eqb (getD (c .before .before .before .before .before .args .kind .now)
-          (y / c .before .before .before .before .before .args .regions) 0) 1) (λ y. getD (c .before .before .before .before .before .args .far .now) y 0)
+          (y / c .before .before .before .before .before .args .regions) 0) 1) (λ y. getD (c .before .before .before .before .before .args .distance .now) y 0)
           (l .p) (l .d) (c .lower .result) (omega arith) (l .inv .2) (c .lower .ensures),
     ))
     (λ c.
     let a = c .before .before .before .before .args in
     let l = c .before .loop in
-    let e : l .p ≡ length (a .far .now) = omega arith in
-    λ Y L D K. fewest-end Y L (a .regions) (l .d) (a .far .now) (a .kind .now) D K (l .inv .1) (rw e at (l .inv .2))))
+    let e : l .p ≡ length (a .distance .now) = omega arith in
+    λ Y L D K. fewest-end Y L (a .regions) (l .d) (a .distance .now) (a .kind .now) D K (l .inv .1) (rw e at (l .inv .2))))

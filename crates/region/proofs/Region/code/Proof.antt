@@ -1,4 +1,4 @@
--- `Region::code` meets its contract: the digits in base 6 are the coordinates of the corner.
+-- `Region::code` meets its contract: its digits are the coordinates of the corner.
 use borrow.Author.Needs.{needs}
 use Rattle.region.specs.Corners.{codeAt}
 use Rattle.region.proofs.Region.code.Statement.{statement}
@@ -13,7 +13,10 @@ code-spec =
     (λ c. search needs)
     (λ c κs. search needs)
     (λ c. search needs)
-    (λ c. search needs)
     (λ c κs. search needs)
+    (λ c. search needs)
+    (λ c. search needs)
+    (λ c. search needs)
+    (λ c. search needs)
     (λ c. search needs)
     (λ c. search needs))

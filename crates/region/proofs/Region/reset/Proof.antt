@@ -1,6 +1,7 @@
 -- `Region::reset` meets its contract: the clocks are cleared and the ranks closed up.
 use mathlib.Core.Path.{_∙_}
 use borrow.Author.Needs.{needs}
+use Rattle.limits.specs.Limits.{maxClocks}
 use Rattle.region.specs.View.{maskBits}
 use Rattle.region.proofs.Views.{closes}
 use Rattle.region.proofs.Region.reset.Statement.{statement}
@@ -13,4 +14,4 @@ reset-spec =
     (λ c κs. search needs)
     (λ c κs. search needs)
     (λ c. let s = c .before .before in
-    c .close-up .ensures ∙ rw (c .before .cleared .ensures .0) (closes (maskBits 3 (s .args .mask)) (s .args .self))))
+    c .close-up .ensures ∙ rw (c .before .cleared .ensures .0) (closes (maskBits maxClocks (s .args .mask)) (s .args .self))))

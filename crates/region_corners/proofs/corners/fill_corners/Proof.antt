@@ -4,7 +4,7 @@ use native.Mathlib.Omega.{arith}
 use mathlib.Core.Path.{sym, _∙_}
 use borrow.Author.Needs.{needs}
 use lib.ListN.{length}
-use Rattle.region.proofs.Known.{listed-length, listed-below}
+use Rattle.region_table.proofs.Listed.{listed-length, listed-below}
 use Rattle.region_corners.proofs.Numbers.{at-listed, at-small}
 use Rattle.region_corners.proofs.Slots.{Placed, placed-start, placed-next, placed-end}
 use Rattle.region_corners.proofs.corners.fill_corners.Statement.{statement}

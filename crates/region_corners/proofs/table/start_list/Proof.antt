@@ -2,10 +2,10 @@
 use mathlib.Core.Path.{refl}
 use Rattle.theory.specs.Lists.{same}
 use Rattle.theory.specs.Region.{fits, lawful, corners, hasCorner, face, regions}
-use Rattle.region_corners.specs.Faces.{facesAt, faceRows}
+use Rattle.region_corners.specs.Faces.{faceCodes, faceRows}
 use Rattle.region_corners.proofs.table.start_list.Statement.{statement}
 use Rattle.region_corners.proofs.table.start_list.Tie as tie
 
 pub start-list-spec : {M : Type 1} → statement M
-unfolding faceRows facesAt regions lawful fits face corners hasCorner same
+unfolding faceRows faceCodes regions lawful fits face corners hasCorner same
 start-list-spec = tie.close (tie.spec (λ c. refl))

@@ -1,7 +1,8 @@
 -- `ranks::closed` meets its contract: the table is computed from the definition, all of it.
 use borrow.Author.Needs.{needs}
 use Rattle.theory.specs.Below.{tab}
-use Rattle.region_steps.specs.Codes.{rankCodeCount, codeOf, closedRanks, closedCode}
+use Rattle.limits.specs.Limits.{rankCodeCount}
+use Rattle.region_steps.specs.Codes.{codeOf, closedRanks, closedCode}
 use Rattle.region_steps.proofs.Codes.{closed-below}
 use Rattle.theory.proofs.Below.{tab-at}
 use Rattle.region_steps.proofs.ranks.closed.Statement.{statement}

@@ -5,7 +5,7 @@ use borrow.Author.Needs.{needs}
 use borrow.Author.Tests.{eq-eqb}
 use Rattle.number.specs.Number.{numberRefusal}
 use Rattle.replay.specs.Trail.{closedWalk}
-use Rattle.number.proofs.Sequence.{value-within}
+use Rattle.evidence_number.proofs.Reading.{value-within}
 use Rattle.replay.proofs.Walks.{part-fits, closed-refused, closed-closes, closed-open}
 use Rattle.replay.proofs.walk.closed_walk.Statement.{statement}
 use Rattle.replay.specs.declared.Reached.the-variants as reached

@@ -31,10 +31,10 @@ put-walk-spec =
     (λ c. search needs)
     (λ c κs. search needs)
     (λ c κs. let r = c .before in let t = r .before .before in let l = t .before in let s = l .before .before .before .before in
-    (s .pre .0, s .pre .1, l .loop .inv .1, omega (arith, r .wide .ensures, s .pre .3 (l .loop .i) (t .loop-test .taken))))
+    (s .pre .0, s .pre .1, l .loop .inv .1, omega (arith, r .from-word .ensures, s .pre .3 (l .loop .i) (t .loop-test .taken))))
     (λ c κs. let r = c .before .before in let t = r .before .before in let l = t .before in let s = l .before .before .before .before in
-    let fits = walked-fits _ _ _ _ _ _ _ _ _ (l .loop .inv .2) _ (t .loop-test .taken) (r .wide .ensures) in (
-      omega (arith, c .least-label .ensures, least-few (s .args .m) (l .loop .p) (r .wide .result) (s .pre .0)),
+    let fits = walked-fits _ _ _ _ _ _ _ _ _ (l .loop .inv .2) _ (t .loop-test .taken) (r .from-word .ensures) in (
+      omega (arith, c .least-label .ensures, least-few (s .args .m) (l .loop .p) (r .from-word .result) (s .pre .0)),
       omega (arith, fits, s .pre .4, ap (λ x. length (spellAll (labelNumbers x))) (c .least-label .ensures)),
     ))
     (λ c. search needs)
@@ -42,8 +42,8 @@ put-walk-spec =
     (λ c. let b = c .before .before in let r = b .before .before .before in let t = r .before .before in let l = t .before in
     let s = l .before .before .before .before in (
       omega arith,
-      omega (arith, r .wide .ensures, s .pre .3 (l .loop .i) (t .loop-test .taken)),
-      walked-more _ _ _ _ _ _ _ _ _ (l .loop .inv .2) _ (t .loop-test .taken) (r .wide .ensures) _ _
+      omega (arith, r .from-word .ensures, s .pre .3 (l .loop .i) (t .loop-test .taken)),
+      walked-more _ _ _ _ _ _ _ _ _ (l .loop .inv .2) _ (t .loop-test .taken) (r .from-word .ensures) _ _
           (lays-as (b .put-label .ensures) (ap (λ x. spellAll (labelNumbers x)) (b .before .least-label .ensures))),
     ))
     (λ c. c .before .loop .inv .2 .laid .long)

@@ -1,0 +1,4 @@
+-- The ways of a call.
+pub mod Calls
+-- Slices that are lent in part and come back as zero.
+pub mod Frames

@@ -1,0 +1,2 @@
+-- What the readers of evidence rest on.
+pub mod Reading

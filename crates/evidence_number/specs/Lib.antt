@@ -1,0 +1,2 @@
+-- How the numbers of evidence are spelled, read and refused.
+pub mod Evidence

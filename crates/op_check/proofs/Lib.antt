@@ -1,0 +1,2 @@
+-- The check's ways.
+pub mod Check

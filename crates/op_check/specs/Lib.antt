@@ -1,0 +1,2 @@
+-- The evidence check.
+pub mod Check

@@ -1,0 +1,2 @@
+-- The judge's ways.
+pub mod Judged

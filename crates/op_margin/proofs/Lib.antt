@@ -1,0 +1,2 @@
+-- The margin's ways.
+pub mod Margins

@@ -1,0 +1,2 @@
+-- How slight a drift is harmless for ever.
+pub mod Margin

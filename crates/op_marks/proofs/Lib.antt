@@ -1,0 +1,2 @@
+-- The marks' ways.
+pub mod Marked

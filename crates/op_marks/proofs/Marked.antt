@@ -1,0 +1,94 @@
+-- What the marks call says and leaves: refused, or a byte for each state from its distance.
+use Prim.Native.Nat.{ℕ, _+_, _≤_, _<_}
+use native.Mathlib.Omega.{arith}
+use native.Mathlib.Decide.{ℕ-discrete}
+use mathlib.Core.Path.{_≡_, refl, sym, ap, _∙_}
+use mathlib.Core.List.{List, [], _∷_, _++_}
+use lib.ListN.{length, getD, set, drop}
+use lib.Seq.{ext-getD, getD-set-same, getD-set-other}
+use lib.Dec.{ltb}
+use borrow.Author.Tests.{ne-eqb, lt-ltb, le-ltb}
+use Rattle.theory.specs.Below.{bit, tab}
+use Rattle.theory.specs.System.{System, Laws}
+use Rattle.theory.specs.Marked.{marks}
+use Rattle.theory.proofs.Below.{tab-length, tab-at}
+use Rattle.theory.proofs.Levels.{mark-marks}
+use Rattle.number.specs.Answer.{answer}
+use Rattle.model.specs.declared.Model.{Model}
+use Rattle.graph.specs.Plan.{systemOfModel}
+use Rattle.graph.specs.States.{states}
+use Rattle.marking.specs.Tables.{Distances}
+use Rattle.call.specs.Call.{modelOf, statesOf, refusal}
+use Rattle.op_marks.specs.declared.Marking.the-variants.{Marked, Refused}
+use Rattle.op_marks.specs.Marks.{short, marksRefusal, marked, marksOf, marksIn, output, markingAnswer}
+
+-- ---- a byte for each state
+
+pub is-table : (l : List ℕ) (n : ℕ) (f : ℕ → ℕ) → length l ≡ n → ((k : ℕ) → k < n → getD l k 0 ≡ f k) → l ≡ tab n f
+is-table l n f e h =
+    ext-getD 0 l (tab n f) (e ∙ sym (tab-length n f))
+    (λ i b. let c = rw e at b in h i c ∙ sym (tab-at n f i c))
+
+-- a loop that stores f of each element of another list
+pub marks-next : (out far : List ℕ) (p x : ℕ) → p < length out → x ≡ bit (ltb 0 (getD far p 0))
+    → ((k : ℕ) → k < p → getD out k 0 ≡ bit (ltb 0 (getD far k 0)))
+    → (k : ℕ) → k < p + 1 → getD (set out p x) k 0 ≡ bit (ltb 0 (getD far k 0))
+marks-next out far p x b e h k c = by (ℕ-discrete k p)
+  where
+    by : Dec (k ≡ p) → getD (set out p x) k 0 ≡ bit (ltb 0 (getD far k 0))
+    by (yes z) = rw z (getD-set-same out p x 0 b ∙ e)
+    by (no z) = getD-set-other out p k x 0 z ∙ h k (omega arith)
+
+module _ (Y : System) (L : Laws Y) where
+  -- marks from distances
+  pub marks-written : (out far : List ℕ) → Distances Y far → length out ≡ Y .size
+      → ((p : ℕ) → p < Y .size → getD out p 0 ≡ bit (ltb 0 (getD far p 0))) → out ≡ marksOf Y
+  unfolding marksOf
+  marks-written out far D e h =
+      is-table out (Y .size) (λ p. bit (marks Y p)) e
+      (λ p b. rw (h p b, D .is p b, mark-marks Y L p) refl)
+
+-- ---- with an output of any length
+
+module _ (m : Model) (k : ℕ) where
+  pub answer-short : k < states m → markingAnswer (Refused 9) ≡ answer (short k m) (states m ∷ [])
+  unfolding markingAnswer answer
+  answer-short b = simp (lt-ltb k (states m) b) refl
+
+  pub answer-marked : (s : ℕ) → s ≡ states m → s ≤ k → markingAnswer (Marked s) ≡ answer (short k m) (states m ∷ [])
+  unfolding markingAnswer answer
+  answer-marked s e b =
+      let c : states m ≤ k = omega arith in
+      simp (le-ltb k (states m) c) (ap (λ (n : ℕ). record { number = 0; values = n ∷ [] }) e)
+
+module _ (m : Model) (out : List ℕ) where
+  pub short-alone : length out < states m → out ≡ marksIn m out
+  unfolding marksIn
+  short-alone b = simp (lt-ltb (length out) (states m) b) refl
+
+  pub marked-in : (s : ℕ) (xs : List ℕ) → s ≡ states m → s ≤ length out → xs ≡ marksOf (systemOfModel m) → xs ++ drop s out ≡ marksIn m out
+  unfolding marksIn
+  marked-in s xs e b f =
+      let c : states m ≤ length out = omega arith in
+      simp (le-ltb (length out) (states m) c) (rw (e, f) refl)
+
+-- ---- a call
+
+module _ (bytes lent : List ℕ) where
+  module _ (r : ℕ) (is : refusal bytes lent ≡ r) (ne : r ≡ 0 → ⊥) where
+    pub marks-refused : (k : ℕ) → markingAnswer (Refused r) ≡ marked bytes lent k
+    unfolding markingAnswer marked marksRefusal answer
+    marks-refused k = simp (is, ne-eqb r 0 ne) refl
+
+    pub output-alone : (xs : List ℕ) → xs ≡ output bytes lent xs
+    unfolding output
+    output-alone xs = simp (is, ne-eqb r 0 ne) refl
+
+  module _ (is : refusal bytes lent ≡ 0) where
+    pub marks-done : (k : ℕ) → marked bytes lent k ≡ answer (short k (modelOf bytes)) (statesOf bytes ∷ [])
+    unfolding marked marksRefusal
+    marks-done k = simp is refl
+
+    pub output-done : (xs : List ℕ) → output bytes lent xs ≡ marksIn (modelOf bytes) xs
+    unfolding output
+    output-done xs = simp is refl

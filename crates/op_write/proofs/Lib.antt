@@ -1,0 +1,2 @@
+-- The writer's ways.
+pub mod Write

@@ -1,0 +1,2 @@
+-- The evidence writer.
+pub mod Write

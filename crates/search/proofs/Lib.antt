@@ -1,0 +1,20 @@
+-- Laws behind the functions' proofs, over any relation.
+
+-- A list that a loop fills with zeros.
+pub mod Zero
+-- Counts of places that pass a test.
+pub mod Count
+-- Rows of successors.
+pub mod Rows
+-- Whether small lists are rows, by a test.
+pub mod RowsTest
+-- What is taken in, part after part.
+pub mod Queue
+-- The least state of a set.
+pub mod Scan
+-- The rounds of the search.
+pub mod Rounds
+-- The pass of flags from the last level down.
+pub mod Flags
+-- The walk along the flags.
+pub mod Follow

@@ -1,0 +1,2 @@
+-- The tables by region in one slice.
+pub mod Layout

@@ -1,0 +1,2 @@
+-- The reading of a sheet's numbers.
+pub mod Reading

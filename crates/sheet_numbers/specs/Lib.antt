@@ -1,0 +1,2 @@
+-- The numbers of a sheet, as they are read.
+pub mod Numbers

@@ -1,0 +1,2 @@
+-- The tables of a model.
+pub mod Tables

@@ -1,0 +1,2 @@
+-- Numbers of as many clocks as there are.
+pub mod Clocks
