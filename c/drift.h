@@ -23,6 +23,9 @@
 extern "C" {
 #endif
 
+/* A number of the scratch. */
+typedef uint16_t drift_word;
+
 /* The most states that an accepted model has: scratch of this length is
  * enough for every model. */
 #define DRIFT_MOST_STATES 15816
@@ -64,10 +67,10 @@ enum drift_kind {
  * trail. See drift_is_unsafe, drift_states, drift_count. */
 uint64_t drift_judge(
     const uint8_t *model, size_t model_length,
-    uint16_t *s1, size_t s1_length,
-    uint16_t *s2, size_t s2_length,
-    uint16_t *s3, size_t s3_length,
-    uint16_t *s4, size_t s4_length);
+    drift_word *s1, size_t s1_length,
+    drift_word *s2, size_t s2_length,
+    drift_word *s3, size_t s3_length,
+    drift_word *s4, size_t s4_length);
 
 /* Into the output's first S bytes a mark for each state, in state order: 1
  * if it is in the marked set, else 0. The rest of the output is untouched.
@@ -76,10 +79,10 @@ uint64_t drift_judge(
  * The answer: number + 2^16 * S. See drift_states. */
 uint64_t drift_marks(
     const uint8_t *model, size_t model_length,
-    uint16_t *s1, size_t s1_length,
-    uint16_t *s2, size_t s2_length,
-    uint16_t *s3, size_t s3_length,
-    uint16_t *s4, size_t s4_length,
+    drift_word *s1, size_t s1_length,
+    drift_word *s2, size_t s2_length,
+    drift_word *s3, size_t s3_length,
+    drift_word *s4, size_t s4_length,
     uint8_t *out, size_t out_length);
 
 /* Our evidence for the plan, from the output's first byte: a sheet if it is
@@ -90,10 +93,10 @@ uint64_t drift_marks(
  * written. See drift_is_unsafe, drift_written. */
 uint64_t drift_write_evidence(
     const uint8_t *model, size_t model_length,
-    uint16_t *s1, size_t s1_length,
-    uint16_t *s2, size_t s2_length,
-    uint16_t *s3, size_t s3_length,
-    uint16_t *s4, size_t s4_length,
+    drift_word *s1, size_t s1_length,
+    drift_word *s2, size_t s2_length,
+    drift_word *s3, size_t s3_length,
+    drift_word *s4, size_t s4_length,
     uint8_t *out, size_t out_length);
 
 /* Whether evidence from anywhere passes for the plan: its bytes spell, with
@@ -106,10 +109,10 @@ uint64_t drift_write_evidence(
 uint64_t drift_check_evidence(
     const uint8_t *model, size_t model_length,
     const uint8_t *evidence, size_t evidence_length,
-    uint16_t *s1, size_t s1_length,
-    uint16_t *s2, size_t s2_length,
-    uint16_t *s3, size_t s3_length,
-    uint16_t *s4, size_t s4_length);
+    drift_word *s1, size_t s1_length,
+    drift_word *s2, size_t s2_length,
+    drift_word *s3, size_t s3_length,
+    drift_word *s4, size_t s4_length);
 
 /* The number whose first byte stands at an offset, any offset. Refusals 1
  * and 2; a reader then stays where it is. At the end of the bytes it is 1.

@@ -22,7 +22,7 @@ static const uint8_t plan[] = {
     2, 3, 0, 0, 0, 2, 2
 };
 
-static uint16_t s1[STATES], s2[STATES], s3[STATES], s4[STATES];
+static drift_word s1[STATES], s2[STATES], s3[STATES], s4[STATES];
 static uint8_t evidence[ROOM];
 
 /* An answer that is no refusal. */

@@ -54,7 +54,7 @@ fn both<T, U>(mut ours: impl FnMut() -> T, mut theirs: impl FnMut() -> U) -> [Du
 }
 
 struct Buffers {
-    scratch: [Vec<u16>; 4],
+    scratch: [Vec<drift::Word>; 4],
     output: Vec<u8>,
 }
 

@@ -1,5 +1,6 @@
 //! Scratch and output lent for a call, and what must be left of them.
 
+use drift::Word;
 use second::random::Random;
 
 /// The most that a slice has beyond what is asked for.
@@ -10,7 +11,7 @@ const MARGIN: usize = 8;
 
 /// Four dirty scratch slices, each with a margin around it.
 pub struct Lent {
-    before: [Vec<u16>; 4],
+    before: [Vec<Word>; 4],
 }
 
 /// A length near one that is asked for: mostly enough, at times one short or none.
@@ -37,8 +38,8 @@ pub fn rooms(random: &mut Random, asked: usize) -> Vec<usize> {
     vec![shorter, asked, asked + 1 + random.below(BEYOND)]
 }
 
-fn dirty(random: &mut Random, length: usize) -> Vec<u16> {
-    (0..length).map(|_| random.bits() as u16).collect()
+fn dirty(random: &mut Random, length: usize) -> Vec<Word> {
+    (0..length).map(|_| random.bits() as Word).collect()
 }
 
 impl Lent {

@@ -1,7 +1,7 @@
 //! Judges the loop plan of document 01, writes its evidence, checks that, and
 //! reads it number by number. c/example.c does the same in C.
 
-use drift::{Kind, Numbers, Refusal, Scratch};
+use drift::{Kind, Numbers, Refusal, Scratch, Word};
 
 /// Clean with perfect clocks, unsafe under drift.
 const PLAN: [u8; 46] = [
@@ -46,7 +46,7 @@ pub fn report() -> Result<String, Refusal> {
     .concat())
 }
 
-fn lend(memory: &mut [[u16; STATES]; 4]) -> Scratch<'_> {
+fn lend(memory: &mut [[Word; STATES]; 4]) -> Scratch<'_> {
     memory.each_mut().map(|slice| &mut slice[..])
 }
 

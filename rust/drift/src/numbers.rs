@@ -1,17 +1,15 @@
 //! Numbers read one by one from lent bytes.
 
-use crate::{accepted, raw, Refusal};
+use crate::boundary::{accepted, drift_next_number, field, NEXT, VALUE};
+use crate::Refusal;
 
 /// The number that begins at an offset, and the offset after it; refusal 1
 /// or 2 where there is none.
 pub fn next_number(bytes: &[u8], at: usize) -> Result<(u32, usize), Refusal> {
-    // SAFETY: the pointer comes with the length of its slice; the offset may
-    // be any.
-    let word = accepted(unsafe { raw::drift_next_number(bytes.as_ptr(), bytes.len(), at) })?;
-    // The word has room for the lower 32 bits of the offset. It lies one to
-    // three bytes on, which those bits tell.
-    let length = ((word >> 32) as u32).wrapping_sub(at as u32);
-    Ok(((word >> 8) as u32 & 0xff_ffff, at + length as usize))
+    let answer = accepted(drift_next_number(bytes, at))?;
+    // It lies one to three bytes on, which the lower 32 bits tell.
+    let length = (field(answer, NEXT) as u32).wrapping_sub(at as u32);
+    Ok((field(answer, VALUE) as u32, at + length as usize))
 }
 
 /// A reader over lent bytes. It is no `Iterator`, since it does not end: past

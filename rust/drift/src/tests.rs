@@ -33,11 +33,11 @@ const DIRT: u8 = 0xa5;
 const SPARE: usize = 5;
 
 /// Dirty scratch of so many numbers each.
-fn dirty(length: usize) -> [Vec<u16>; 4] {
+fn dirty(length: usize) -> [Vec<Word>; 4] {
     std::array::from_fn(|_| vec![DIRT.into(); length])
 }
 
-fn lend(scratch: &mut [Vec<u16>; 4]) -> Scratch<'_> {
+fn lend(scratch: &mut [Vec<Word>; 4]) -> Scratch<'_> {
     scratch.each_mut().map(|slice| &mut slice[..])
 }
 
@@ -69,6 +69,18 @@ fn writes(model: &[u8], states: usize, is_unsafe: bool, evidence: &[u8]) {
         };
         assert_eq!(write(model, states + SPARE, room), (answer, out, states));
     }
+}
+
+/// A word as c/drift.h adds it up, with each field at its greatest.
+#[test]
+fn fields_of_an_answer() {
+    let answer = 14 + (1 << 8) + (0xff_ffff << 16) + (7 << 40);
+    assert_eq!(accepted(answer), Err(14));
+    let fields = [VERDICT, STATES, COUNT].map(|bits| field(answer, bits));
+    assert_eq!(fields, [1, 0xff_ffff, 7]);
+    let whole = [VERDICT, STATES, COUNT, WRITTEN, VALUE, NEXT].map(|bits| field(u64::MAX, bits));
+    let greatest = [8, 24, 24, 48, 24, 32].map(|bits| (1 << bits) - 1);
+    assert_eq!(whole, greatest);
 }
 
 #[test]

@@ -1,0 +1,91 @@
+//! The C boundary, as c/drift.h describes it: each function of the static
+//! library on one line, and the fields of the words that they return.
+
+use crate::{Refusal, Scratch};
+use std::ops::Range;
+
+/// A number of the scratch.
+pub type Word = u16;
+
+/// Declares functions of the library and makes a safe function of each. What
+/// they take comes in this order: bytes to read, scratch, bytes to write,
+/// plain numbers. A slice goes over as a pointer and a length.
+macro_rules! foreign {
+    ($(fn $name:ident(
+        $(read $read:ident),+
+        $(, scratch [$($scratch:ident),+])?
+        $(, write $write:ident)*
+        $(, number $number:ident)*
+    ) -> $answer:ty;)+) => {$(
+        pub fn $name(
+            $($read: &[u8],)+
+            $([$($scratch),+]: Scratch,)?
+            $($write: &mut [u8],)*
+            $($number: usize,)*
+        ) -> $answer {
+            extern "C" {
+                fn $name(
+                    $($read: *const u8, _: usize,)+
+                    $($($scratch: *mut Word, _: usize,)+)?
+                    $($write: *mut u8, _: usize,)*
+                    $($number: usize,)*
+                ) -> $answer;
+            }
+            // SAFETY: c/drift.h declares the function so. Each pointer comes
+            // with the length of its own slice, the mutable ones are borrowed
+            // apart from each other and from what is read, and a number may
+            // be any.
+            unsafe {
+                $name(
+                    $($read.as_ptr(), $read.len(),)+
+                    $($($scratch.as_mut_ptr(), $scratch.len(),)+)?
+                    $($write.as_mut_ptr(), $write.len(),)*
+                    $($number,)*
+                )
+            }
+        }
+    )+};
+}
+
+foreign! {
+    fn drift_judge(read model, scratch [a, b, c, d]) -> u64;
+    fn drift_marks(read model, scratch [a, b, c, d], write out) -> u64;
+    fn drift_check_evidence(read model, read evidence, scratch [a, b, c, d]) -> u64;
+    fn drift_write_evidence(read model, scratch [a, b, c, d], write out) -> u64;
+    fn drift_next_number(read bytes, number at) -> u64;
+    fn drift_margin(read model) -> u64;
+}
+
+// The fields of an answer, by their bits.
+
+/// 0, or the refusal, with which all others are 0.
+const NUMBER: Range<u32> = 0..8;
+/// 1 if unsafe, 0 if safe.
+pub const VERDICT: Range<u32> = 8..16;
+/// 1 for a sheet, 2 for a trail.
+pub const KIND: Range<u32> = 8..16;
+/// The number of states (S).
+pub const STATES: Range<u32> = 16..40;
+/// Marked states if safe, steps of our trail if unsafe.
+pub const COUNT: Range<u32> = 40..64;
+/// A: every drift below 1/A of a unit is harmless.
+pub const MARGIN: Range<u32> = 40..64;
+/// The bytes of evidence written.
+pub const WRITTEN: Range<u32> = 16..64;
+/// The number that was read.
+pub const VALUE: Range<u32> = 8..32;
+/// The lower 32 bits of the offset after it.
+pub const NEXT: Range<u32> = 32..64;
+
+/// What a field of an answer holds.
+pub fn field(answer: u64, bits: Range<u32>) -> u64 {
+    answer << (u64::BITS - bits.end) >> (u64::BITS - bits.end + bits.start)
+}
+
+/// An answer that is no refusal.
+pub fn accepted(answer: u64) -> Result<u64, Refusal> {
+    match field(answer, NUMBER) {
+        0 => Ok(answer),
+        number => Err(number as Refusal),
+    }
+}
