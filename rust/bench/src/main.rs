@@ -88,11 +88,7 @@ impl Buffers {
 }
 
 fn main() {
-    for clocks in 1..=3 {
-        for ceiling in 1..=4 {
-            Regions::of(clocks, ceiling);
-        }
-    }
+    Regions::all().for_each(drop);
     println!(
         "microseconds of a call, mean of {MODELS} models, each the fastest of {REPEATS} turns"
     );

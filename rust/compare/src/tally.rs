@@ -1,5 +1,6 @@
 //! How often each answer came up.
 
+use second::refusal::{LAST, OUTPUT_TOO_SHORT};
 use std::collections::BTreeMap;
 use std::fmt;
 
@@ -38,11 +39,11 @@ pub struct Tally {
     /// Sheets and trails written.
     written: [Written; 2],
     /// Calls of the writer by the refusal.
-    unwritten: [u64; 10],
+    unwritten: [u64; OUTPUT_TOO_SHORT as usize + 1],
     /// Passing sheets and trails, at 1 and 2.
     passed: [u64; 3],
     /// By the refusal.
-    refused: [u64; 15],
+    refused: [u64; LAST as usize + 1],
     /// By the kind of evidence: pairs, and how many passed.
     kinds: BTreeMap<&'static str, (u64, u64)>,
 }
@@ -95,7 +96,7 @@ impl fmt::Display for Tally {
             self.passed[1], self.passed[2]
         )?;
         for (refusal, count) in self.refused.iter().enumerate().skip(1) {
-            if refusal != usize::from(second::refusal::OUTPUT_TOO_SHORT) {
+            if refusal != usize::from(OUTPUT_TOO_SHORT) {
                 writeln!(f, "  refused {refusal}: {count}")?;
             }
         }

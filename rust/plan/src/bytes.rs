@@ -2,37 +2,56 @@
 
 use crate::flaw::{Flaw, Numbers};
 use crate::loops::unreset_loops;
-use crate::plan::location_name;
-use crate::{Edge, Location, Plan, MOST_CEILING, MOST_CLOCKS, MOST_EDGES, MOST_LOCATIONS};
-use second::numbers::shortest;
+use crate::{Edge, Location, Plan};
+use second::draft::{Draft, DraftEdge};
+use second::model::{Field, Model};
+use second::refusal::CLOCK_UNRESET;
+use std::ops::RangeInclusive;
 
 /// The model bytes of a plan, in shortest numbers.
 pub fn encode(plan: &Plan) -> Vec<u8> {
-    let mut numbers = vec![1, plan.clocks.len() as u32, plan.ceiling.into()];
-    numbers
-        .extend([plan.locations.len(), plan.edges.len(), plan.start].map(|number| number as u32));
-    for location in &plan.locations {
-        numbers.push(location.forbidden.into());
-        // 0 stands for the ceiling, any other s for limit s-1.
-        let stay = location.stay.iter();
-        numbers.extend(stay.map(|limit| limit.map_or(0, |limit| u32::from(limit) + 1)));
+    let locations = plan.locations.iter();
+    Draft {
+        clocks: plan.clocks.len(),
+        ceiling: plan.ceiling.into(),
+        start: plan.start,
+        kinds: locations.clone().map(|at| at.forbidden.into()).collect(),
+        stays: locations.map(stay_fields).collect(),
+        edges: plan.edges.iter().map(drafted).collect(),
     }
-    for edge in &plan.edges {
-        numbers.extend([edge.from as u32, edge.to as u32, edge.resets.into()]);
-        let guard = edge.guard.iter();
-        numbers.extend(guard.flat_map(|&(low, high)| [u32::from(low), u32::from(high)]));
+    .bytes()
+}
+
+/// 0 stands for the ceiling, any other s for limit s-1.
+fn stay_fields(location: &Location) -> Vec<u32> {
+    let field = |limit: &Option<u8>| limit.map_or(0, |limit| u32::from(limit) + 1);
+    location.stay.iter().map(field).collect()
+}
+
+fn drafted(edge: &Edge) -> DraftEdge {
+    let bounds = |&(low, high): &(u8, u8)| (low.into(), high.into());
+    DraftEdge {
+        from: edge.from,
+        to: edge.to,
+        mask: edge.resets.into(),
+        guard: edge.guard.iter().map(bounds).collect(),
     }
-    shortest(&numbers)
 }
 
 /// The plan of model bytes, with plain names; or the first flaw, by the
 /// order of document 01 (refusals 1 to 7).
 pub fn decode(bytes: &[u8]) -> Result<Plan, Flaw> {
-    let mut model = ModelNumbers {
-        numbers: Numbers::new(bytes),
-    };
-    let plan = model.plan()?;
-    model.numbers.end("the model")?;
+    let mut numbers = Numbers::new(bytes);
+    let mut stays = Vec::new();
+    let model = Model::from_fields(&mut |field, range| {
+        let number = number_within(&mut numbers, field, range)?;
+        if let Field::Stay { .. } = field {
+            stays.push(number.checked_sub(1).map(|limit| limit as u8));
+        }
+        Ok(number)
+    })?;
+    numbers.end("the model")?;
+    let plan = plan_of(&model, &stays);
     for clock in 0..plan.clocks.len() {
         let edges: Vec<&Edge> = plan.edges.iter().collect();
         if let Some(found) = unreset_loops(plan.locations.len(), &edges, clock).first() {
@@ -42,6 +61,39 @@ pub fn decode(bytes: &[u8]) -> Result<Plan, Flaw> {
     Ok(plan)
 }
 
+/// A model with plain names, and with the stay limits as they were given.
+fn plan_of(model: &Model, stays: &[Option<u8>]) -> Plan {
+    let locations = model.locations.iter().zip(stays.chunks(model.clocks));
+    let edges = model.edges.iter();
+    Plan {
+        clocks: vec![String::new(); model.clocks],
+        ceiling: model.ceiling,
+        start: model.start,
+        locations: locations
+            .map(|(location, stay)| Location {
+                name: String::new(),
+                forbidden: location.forbidden,
+                stay: stay.to_vec(),
+            })
+            .collect(),
+        edges: edges
+            .map(|edge| Edge {
+                name: None,
+                from: edge.from,
+                to: edge.to,
+                resets: edge.resets,
+                guard: edge
+                    .low
+                    .into_iter()
+                    .zip(edge.high)
+                    .take(model.clocks)
+                    .collect(),
+            })
+            .collect(),
+    }
+    .with_plain_names()
+}
+
 fn unreset(plan: &Plan, clock: usize, found: &[usize]) -> Flaw {
     let edges: Vec<String> = found.iter().map(|&at| plan.edge_title(at)).collect();
     let clock_name = &plan.clocks[clock];
@@ -49,96 +101,52 @@ fn unreset(plan: &Plan, clock: usize, found: &[usize]) -> Flaw {
         "clock {clock} ({clock_name}) is never reset on the loop of {}",
         edges.join(", ")
     );
-    Flaw { refusal: 7, words }
+    Flaw {
+        refusal: CLOCK_UNRESET,
+        words,
+    }
 }
 
-struct ModelNumbers<'a> {
-    numbers: Numbers<'a>,
+/// The next number of a model, or what is wrong with it.
+fn number_within(
+    numbers: &mut Numbers,
+    field: Field,
+    range: RangeInclusive<u32>,
+) -> Result<u32, Flaw> {
+    let (low, high) = range.into_inner();
+    let what = field_words(field, low);
+    let number = numbers.next(&what)?;
+    if (low..=high).contains(&number) {
+        return Ok(number);
+    }
+    let range = if low == high {
+        format!("must be {low}")
+    } else {
+        format!("must be {low} to {high}")
+    };
+    let words = format!("{what}: it is {number}, but {range}");
+    Err(numbers.flaw(field.refusal(), &words))
 }
 
-impl ModelNumbers<'_> {
-    fn field(&mut self, refusal: u8, what: &str, low: u32, high: u32) -> Result<u32, Flaw> {
-        let number = self.numbers.next(what)?;
-        if (low..=high).contains(&number) {
-            return Ok(number);
+/// What a number that is at least `low` stands for.
+fn field_words(field: Field, low: u32) -> String {
+    match field {
+        Field::Mark => "the mark".to_string(),
+        Field::Clocks => "the number of clocks".to_string(),
+        Field::Ceiling => "the ceiling".to_string(),
+        Field::Locations => "the number of locations".to_string(),
+        Field::Edges => "the number of edges".to_string(),
+        Field::Start => "the start location".to_string(),
+        Field::Kind { location } => format!("the kind of location {location}"),
+        Field::Stay { location, clock } => {
+            format!("the stay field of clock {clock} in location {location}")
         }
-        let range = if low == high {
-            format!("must be {low}")
-        } else {
-            format!("must be {low} to {high}")
-        };
-        Err(self
-            .numbers
-            .flaw(refusal, &format!("{what}: it is {number}, but {range}")))
-    }
-
-    fn plan(&mut self) -> Result<Plan, Flaw> {
-        self.field(3, "the mark", 1, 1)?;
-        let clocks = self.field(3, "the number of clocks", 1, MOST_CLOCKS as u32)? as usize;
-        let ceiling = self.field(3, "the ceiling", 1, MOST_CEILING)?;
-        let locations = self.field(3, "the number of locations", 1, MOST_LOCATIONS as u32)?;
-        let edges = self.field(3, "the number of edges", 0, MOST_EDGES as u32)?;
-        let start = self.field(3, "the start location", 0, locations - 1)? as usize;
-        let mut plan = Plan {
-            clocks: crate::plan::CLOCK_NAMES[..clocks]
-                .iter()
-                .map(|name| name.to_string())
-                .collect(),
-            ceiling: ceiling as u8,
-            start,
-            locations: Vec::new(),
-            edges: Vec::new(),
-        };
-        for at in 0..locations as usize {
-            plan.locations.push(self.location(at, clocks, ceiling)?);
+        Field::From { edge } => format!("the location that edge {edge} leaves"),
+        Field::To { edge } => format!("the location that edge {edge} enters"),
+        Field::Resets { edge } => format!("the reset mask of edge {edge}"),
+        Field::Low { edge, clock } => format!("the low of clock {clock} on edge {edge}"),
+        Field::High { edge, clock } => {
+            format!("the high of clock {clock} on edge {edge}, whose low is {low}")
         }
-        for at in 0..edges as usize {
-            plan.edges.push(self.edge(at, &plan)?);
-        }
-        Ok(plan)
-    }
-
-    fn location(&mut self, at: usize, clocks: usize, ceiling: u32) -> Result<Location, Flaw> {
-        let forbidden = self.field(4, &format!("the kind of location {at}"), 0, 1)? == 1;
-        let mut stay = Vec::new();
-        for clock in 0..clocks {
-            let what = format!("the stay field of clock {clock} in location {at}");
-            let field = self.field(4, &what, 0, ceiling + 1)?;
-            stay.push(field.checked_sub(1).map(|limit| limit as u8));
-        }
-        Ok(Location {
-            name: location_name(at),
-            forbidden,
-            stay,
-        })
-    }
-
-    fn edge(&mut self, at: usize, plan: &Plan) -> Result<Edge, Flaw> {
-        let last = plan.locations.len() as u32 - 1;
-        let clocks = plan.clocks.len();
-        let from = self.field(5, &format!("the location that edge {at} leaves"), 0, last)? as usize;
-        let to = self.field(5, &format!("the location that edge {at} enters"), 0, last)? as usize;
-        let all = (1 << clocks) - 1;
-        let resets = self.field(5, &format!("the reset mask of edge {at}"), 0, all)? as u8;
-        let mut guard = Vec::new();
-        for clock in 0..clocks {
-            let ceiling = plan.ceiling.into();
-            let low = self.field(
-                5,
-                &format!("the low of clock {clock} on edge {at}"),
-                0,
-                ceiling,
-            )?;
-            let what = format!("the high of clock {clock} on edge {at}, whose low is {low}");
-            let high = self.field(5, &what, low, ceiling)?;
-            guard.push((low as u8, high as u8));
-        }
-        Ok(Edge {
-            name: None,
-            from,
-            to,
-            resets,
-            guard,
-        })
     }
 }

@@ -2,15 +2,22 @@
 
 use crate::bytes::decode;
 use crate::flaw::{Flaw, Numbers};
-use crate::sheet::{read_sheet, SHEET};
-use crate::trail::{read_trail, TRAIL};
+use crate::sheet::read_sheet;
+use crate::trail::read_trail;
 use crate::Plan;
 use second::calls::states_of;
+use second::limits::{MAX_CEILING, MAX_CLOCKS, MAX_EDGES, MAX_LOCATIONS};
+use second::numbers::shortest;
 use second::program::SCRATCH;
-use second::refusal::NO_EVIDENCE;
+use second::refusal::{
+    Refusal, BAD_HEADER, LAST, NO_EVIDENCE, OUTPUT_TOO_SHORT, SCRATCH_TOO_SHORT,
+};
+use second::sheet::{greatest_number, SHEET};
+use second::trail::TRAIL;
 
-/// What each refusal, 1 to 14, means and what to do about it.
-const REFUSALS: [(&str, &str); 14] = [
+/// What each refusal, from 1 on, means and what to do about it. The advice
+/// about a header, which names the limits, is `header_advice`.
+const REFUSALS: [(&str, &str); LAST as usize] = [
     (
         "the bytes end too soon",
         "The file stops in the middle of a plan or of evidence. It was probably cut when it \
@@ -21,11 +28,7 @@ const REFUSALS: [(&str, &str); 14] = [
         "A number takes at most three bytes, and a third byte says that a fourth follows. The \
          file is damaged, or it is no plan or evidence at all.",
     ),
-    (
-        "a number of the header is out of range",
-        "A plan begins with the mark 1, then clocks (1 to 3), ceiling (1 to 4), locations (1 \
-         to 8), edges (0 to 24) and the start location, which must be one of the locations.",
-    ),
+    ("a number of the header is out of range", ""),
     (
         "a number of a location is out of range",
         "A location's kind is 0 (ordinary) or 1 (forbidden); each stay field is 0 for the \
@@ -88,26 +91,38 @@ const REFUSALS: [(&str, &str); 14] = [
     ),
 ];
 
+fn header_advice() -> String {
+    format!(
+        "A plan begins with the mark 1, then clocks (1 to {MAX_CLOCKS}), ceiling (1 to \
+         {MAX_CEILING}), locations (1 to {MAX_LOCATIONS}), edges (0 to {MAX_EDGES}) and the \
+         start location, which must be one of the locations."
+    )
+}
+
 /// A refusal in words; none for a number that is no refusal.
-pub fn refusal_words(number: u8) -> Option<String> {
+pub fn refusal_words(number: Refusal) -> Option<String> {
     let (meaning, advice) = REFUSALS.get(usize::from(number).checked_sub(1)?)?;
+    let advice = match number {
+        BAD_HEADER => header_advice(),
+        _ => advice.to_string(),
+    };
     Some(format!("refused {number}: {meaning}\n{advice}\n"))
 }
 
 /// What in the model, and in the evidence if given, a refusal is about.
-pub fn about(number: u8, model: &[u8], evidence: Option<&[u8]>) -> String {
+pub fn about(number: Refusal, model: &[u8], evidence: Option<&[u8]>) -> String {
     let plan = match decode(model) {
         Err(flaw) => return matching(number, "this model", &flaw),
         Ok(plan) => plan,
     };
     let states = states_of(&plan.model());
     match (number, evidence) {
-        (8, _) => room_words(states),
-        (9, _) => {
+        (SCRATCH_TOO_SHORT, _) => room_words(states),
+        (OUTPUT_TOO_SHORT, _) => {
             let room = sheet_room(states);
             format!("here: the marks take {states} bytes; a sheet takes at most {room}\n")
         }
-        (_, None) if number > 9 => {
+        (_, None) if number > OUTPUT_TOO_SHORT => {
             "here: the model is read without a flaw; give the evidence too, since this refusal \
              is about it\n"
                 .to_string()
@@ -126,7 +141,7 @@ pub fn about(number: u8, model: &[u8], evidence: Option<&[u8]>) -> String {
 
 /// The most bytes of a sheet: a mark, then the longest number for each state.
 fn sheet_room(states: usize) -> usize {
-    let longest = second::numbers::shortest(&[2 * states as u32 - 1]).len();
+    let longest = shortest(&[greatest_number(states)]).len();
     1 + longest * states
 }
 
@@ -141,7 +156,7 @@ fn room_words(states: usize) -> String {
     )
 }
 
-fn matching(number: u8, what: &str, flaw: &Flaw) -> String {
+fn matching(number: Refusal, what: &str, flaw: &Flaw) -> String {
     if flaw.refusal == number {
         return format!("here: {}\n", flaw.words);
     }
@@ -158,7 +173,8 @@ pub fn read_evidence(plan: &Plan, evidence: &[u8]) -> Result<&'static str, Flaw>
         SHEET => read_sheet(plan, evidence).map(|_| "sheet"),
         TRAIL => read_trail(plan, evidence).flaw.map_or(Ok("trail"), Err),
         other => {
-            let words = format!("the mark of the evidence: it is {other}, but must be 1 or 2");
+            let words =
+                format!("the mark of the evidence: it is {other}, but must be {SHEET} or {TRAIL}");
             Err(numbers.flaw(NO_EVIDENCE, &words))
         }
     }

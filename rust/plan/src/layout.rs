@@ -99,7 +99,7 @@ fn permute(order: &mut Vec<usize>, first: usize, show: &mut dyn FnMut(&[usize]))
 
 fn cost(pairs: &[(usize, usize)], order: &[usize]) -> usize {
     let count = order.len();
-    let mut place = [0; crate::MOST_LOCATIONS];
+    let mut place = [0; second::limits::MAX_LOCATIONS];
     order
         .iter()
         .enumerate()

@@ -2,7 +2,8 @@
 //! back, drawings of plans and trails, and refusals in words.
 //!
 //! Nothing here judges. Models, evidence and refusals are those of document
-//! 01; whether a plan is safe is for the proved programs to say.
+//! 01, with the limits and readers of the second checker; whether a plan is
+//! safe is for the proved programs to say.
 
 pub mod bytes;
 pub mod curve;
@@ -28,9 +29,3 @@ mod plan;
 pub use flaw::Flaw;
 pub use mistake::Mistake;
 pub use plan::{Edge, Location, Plan};
-
-/// The limits of document 01.
-pub const MOST_CLOCKS: usize = 3;
-pub const MOST_CEILING: u32 = 4;
-pub const MOST_LOCATIONS: usize = 8;
-pub const MOST_EDGES: usize = 24;

@@ -10,6 +10,7 @@ use plan::print::write_text;
 use plan::sheet::{is_sheet, read_sheet};
 use plan::tell::trail_words;
 use plan::trail::read_trail;
+use second::refusal::LAST;
 use std::io::{Read, Write};
 use std::process::ExitCode;
 
@@ -134,7 +135,7 @@ fn explained(number: &str, files: &[&str]) -> Result<Vec<u8>, Failure> {
     let refusal: u8 = number.parse().unwrap_or(0);
     let Some(mut words) = refusal_words(refusal) else {
         return Err((
-            format!("{number} is no refusal; they are numbered 1 to 14\n"),
+            format!("{number} is no refusal; they are numbered 1 to {LAST}\n"),
             2,
         ));
     };

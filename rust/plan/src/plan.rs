@@ -1,6 +1,8 @@
 //! A plan: a model of document 01 whose clocks, locations and edges have names.
 
-use second::model::Model;
+use crate::bytes::encode;
+use second::limits::MAX_CLOCKS;
+use second::{read_model, Model};
 
 #[derive(Clone, Debug, PartialEq, Eq)]
 pub struct Location {
@@ -32,11 +34,6 @@ pub struct Plan {
 }
 
 impl Plan {
-    /// The stay limit of a clock, with the ceiling where none is given.
-    pub fn limit(&self, location: usize, clock: usize) -> u8 {
-        self.locations[location].stay[clock].unwrap_or(self.ceiling)
-    }
-
     /// The name of a location, in quotation marks.
     pub fn quoted(&self, location: usize) -> String {
         format!("'{}'", self.locations[location].name)
@@ -90,31 +87,9 @@ impl Plan {
             .collect()
     }
 
-    /// The plan without its names, as the second checker knows it.
+    /// The plan without its names, as the second checker reads it.
     pub fn model(&self) -> Model {
-        let padded = |limits: &mut dyn Iterator<Item = u8>| {
-            let mut all = [0; crate::MOST_CLOCKS];
-            all.iter_mut().zip(limits).for_each(|(to, from)| *to = from);
-            all
-        };
-        let locations = (0..self.locations.len()).map(|at| second::Location {
-            forbidden: self.locations[at].forbidden,
-            limit: padded(&mut (0..self.clocks.len()).map(|clock| self.limit(at, clock))),
-        });
-        let edges = self.edges.iter().map(|edge| second::Edge {
-            from: edge.from,
-            to: edge.to,
-            resets: edge.resets,
-            low: padded(&mut edge.guard.iter().map(|bounds| bounds.0)),
-            high: padded(&mut edge.guard.iter().map(|bounds| bounds.1)),
-        });
-        Model {
-            clocks: self.clocks.len(),
-            ceiling: self.ceiling,
-            start: self.start,
-            locations: locations.collect(),
-            edges: edges.collect(),
-        }
+        read_model(&encode(self)).expect("a plan without a flaw")
     }
 
     /// The same plan with the names that decoded bytes get.
@@ -133,7 +108,7 @@ impl Plan {
 }
 
 /// The names of clocks and locations of which only bytes are known.
-pub const CLOCK_NAMES: [&str; crate::MOST_CLOCKS] = ["x", "y", "z"];
+pub const CLOCK_NAMES: [&str; MAX_CLOCKS] = ["x", "y", "z"];
 
 pub fn location_name(number: usize) -> String {
     format!("L{number}")

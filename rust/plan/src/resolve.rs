@@ -5,7 +5,8 @@ use crate::lex::Token;
 use crate::loops::unreset_loops;
 use crate::mistake::{guess, Mistake};
 use crate::parse::{lines, Bound, EdgeLine, End, Lines, RESERVED};
-use crate::{Edge, Location, Plan, MOST_CEILING, MOST_CLOCKS, MOST_EDGES, MOST_LOCATIONS};
+use crate::{Edge, Location, Plan};
+use second::limits::{MAX_CEILING, MAX_CLOCKS, MAX_EDGES, MAX_LOCATIONS};
 
 /// Reads a text plan; or all its mistakes, by line and column.
 pub fn read_text(text: &str) -> Result<Plan, Vec<Mistake>> {
@@ -23,7 +24,7 @@ pub fn read_text(text: &str) -> Result<Plan, Vec<Mistake>> {
     }
     Ok(Plan {
         clocks: names.clocks,
-        ceiling: names.ceiling.expect("a missing ceiling is a mistake") as u8,
+        ceiling: names.ceiling.expect("a missing ceiling is a mistake"),
         start: names.start.expect("a missing start is a mistake"),
         locations,
         edges: edges.into_iter().flatten().map(|(edge, _)| edge).collect(),
@@ -39,7 +40,7 @@ fn end_of(text: &str) -> (usize, usize) {
 /// What has been looked up so far.
 struct Names {
     clocks: Vec<String>,
-    ceiling: Option<u32>,
+    ceiling: Option<u8>,
     start: Option<usize>,
     locations: Vec<String>,
     end: (usize, usize),
@@ -108,11 +109,11 @@ impl Names {
             }
             if self.clocks.contains(&token.text) {
                 self.wrong(token, format!("there are two clocks '{}'", token.text));
-            } else if self.clocks.len() == MOST_CLOCKS {
+            } else if self.clocks.len() == MAX_CLOCKS {
                 self.wrong(
                     token,
                     format!(
-                        "clock '{}' is one too many: a plan has at most {MOST_CLOCKS} clocks",
+                        "clock '{}' is one too many: a plan has at most {MAX_CLOCKS} clocks",
                         token.text
                     ),
                 );
@@ -135,11 +136,11 @@ impl Names {
         }
         let Some(token) = first else { return };
         match token.text.parse() {
-            Ok(number) if (1..=MOST_CEILING).contains(&number) => self.ceiling = Some(number),
+            Ok(number) if (1..=MAX_CEILING).contains(&number) => self.ceiling = Some(number),
             _ => self.wrong(
                 token,
                 format!(
-                    "the ceiling is {}, but it can only be 1 to {MOST_CEILING}",
+                    "the ceiling is {}, but it can only be 1 to {MAX_CEILING}",
                     token.text
                 ),
             ),
@@ -150,11 +151,11 @@ impl Names {
         let mut first_start: Option<&Token> = None;
         let mut lines_of: Vec<&Token> = Vec::new();
         for (at, (opening, line)) in lines.locations.iter().enumerate() {
-            if at >= MOST_LOCATIONS {
+            if at >= MAX_LOCATIONS {
                 self.wrong(
                     opening,
                     format!(
-                        "this is location {} of the plan: it can have at most {MOST_LOCATIONS}",
+                        "this is location {} of the plan: it can have at most {MAX_LOCATIONS}",
                         at + 1
                     ),
                 );
@@ -228,8 +229,8 @@ impl Names {
     }
 
     /// A limit within the ceiling.
-    fn limit(&mut self, token: &Token) -> Option<u32> {
-        let most = self.ceiling.unwrap_or(MOST_CEILING);
+    fn limit(&mut self, token: &Token) -> Option<u8> {
+        let most = self.ceiling.unwrap_or(MAX_CEILING);
         match token.text.parse() {
             Ok(limit) if limit <= most => Some(limit),
             _ => {
@@ -282,7 +283,7 @@ impl Names {
                     format!("clock '{}' has a stay limit here already", bound.clock.text),
                 );
             }
-            stay[clock] = Some(limit as u8);
+            stay[clock] = Some(limit);
         }
         stay
     }
@@ -292,11 +293,11 @@ impl Names {
         let mut edges = Vec::new();
         let mut titles: Vec<&Token> = Vec::new();
         for (at, (opening, line)) in lines.edges.iter().enumerate() {
-            if at >= MOST_EDGES {
+            if at >= MAX_EDGES {
                 self.wrong(
                     opening,
                     format!(
-                        "this is edge {} of the plan: it can have at most {MOST_EDGES}",
+                        "this is edge {} of the plan: it can have at most {MAX_EDGES}",
                         at + 1
                     ),
                 );
@@ -347,7 +348,7 @@ impl Names {
     }
 
     fn guard(&mut self, bounds: &[Bound]) -> Vec<(u8, u8)> {
-        let mut ends: Vec<[Option<(u32, &Token)>; 2]> = vec![[None; 2]; self.clocks.len()];
+        let mut ends: Vec<[Option<(u8, &Token)>; 2]> = vec![[None; 2]; self.clocks.len()];
         for bound in bounds {
             let (clock, limit) = (self.clock(&bound.clock), self.limit(&bound.number));
             let (Some(clock), Some(limit)) = (clock, limit) else {
@@ -369,7 +370,7 @@ impl Names {
                 }
             }
         }
-        let ceiling = self.ceiling.unwrap_or(MOST_CEILING);
+        let ceiling = self.ceiling.unwrap_or(MAX_CEILING);
         let mut guard = Vec::new();
         for (clock, [low, high]) in ends.into_iter().enumerate() {
             if let (Some((low, _)), Some((high, token))) = (low, high) {
@@ -382,8 +383,7 @@ impl Names {
                     self.wrong(token, words);
                 }
             }
-            let number =
-                |end: Option<(u32, &Token)>, or: u32| end.map_or(or, |(limit, _)| limit) as u8;
+            let number = |end: Option<(u8, &Token)>, or: u8| end.map_or(or, |(limit, _)| limit);
             guard.push((number(low, 0), number(high, ceiling)));
         }
         guard

@@ -6,9 +6,7 @@ use crate::Plan;
 use second::graph::Graph;
 use second::marking::CornerNotes;
 use second::refusal::{BAD_SHEET_NUMBER, SHEET_RULE_BROKEN};
-
-/// The number with which a sheet begins.
-pub const SHEET: u32 = 1;
+use second::sheet::{greatest_number, SHEET};
 
 /// Whether evidence begins like a sheet.
 pub fn is_sheet(evidence: &[u8]) -> bool {
@@ -48,7 +46,7 @@ pub fn read_sheet(plan: &Plan, evidence: &[u8]) -> Result<Tally, Flaw> {
 fn sheet_numbers(plan: &Plan, graph: &Graph, evidence: &[u8]) -> Result<Vec<u32>, Flaw> {
     let mut numbers = Numbers::new(evidence);
     numbers.next("the mark of the evidence")?;
-    let most = 2 * graph.states() as u32 - 1;
+    let most = greatest_number(graph.states());
     let mut all = Vec::new();
     for state in 0..graph.states() {
         let what = || format!("state {state}, {}", state_words(plan, graph, state));

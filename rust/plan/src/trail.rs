@@ -4,12 +4,11 @@
 use crate::flaw::{Flaw, Numbers};
 use crate::tell::region_words;
 use crate::Plan;
+use second::graph::{FACE, JUMP, TIME, TOUCH};
 use second::model::Model;
 use second::refusal::{BAD_STEP, ENDS_ORDINARY, NO_EVIDENCE};
 use second::regions::{Region, Regions};
-
-/// The number with which a trail begins.
-pub const TRAIL: u32 = 2;
+use second::trail::TRAIL;
 
 #[derive(Clone, Copy, Debug, PartialEq, Eq)]
 pub struct State {
@@ -72,7 +71,7 @@ impl Replay<'_> {
         if self.numbers.next("the mark of the evidence")? != TRAIL {
             return Err(self.numbers.flaw(
                 NO_EVIDENCE,
-                "the mark of the evidence: a trail begins with 2",
+                &format!("the mark of the evidence: a trail begins with {TRAIL}"),
             ));
         }
         let mut state = start_of(self.plan);
@@ -98,24 +97,24 @@ impl Replay<'_> {
     /// The next step; a closed walk is made of time and jump steps alone.
     fn step(&mut self, from: State, name: &str, all_kinds: bool) -> Result<Step, Flaw> {
         let kind = self.numbers.next(&format!("the kind of {name}"))?;
-        let (kind, to) = match kind {
-            0 => (Kind::Time, self.time(from, name)?),
-            1 => {
+        let (kind, to) = match u8::try_from(kind) {
+            Ok(TIME) => (Kind::Time, self.time(from, name)?),
+            Ok(JUMP) => {
                 let (edge, to) = self.jump(from, name)?;
                 (Kind::Jump(edge), to)
             }
-            2 if all_kinds => (Kind::Face, self.face(from, name)?),
-            3 if all_kinds => {
+            Ok(FACE) if all_kinds => (Kind::Face, self.face(from, name)?),
+            Ok(TOUCH) if all_kinds => {
                 let to = self.touched(from, name)?;
                 (Kind::Touch(self.closed_walk(to, name)?), to)
             }
-            other => {
+            _ => {
                 let known = if all_kinds {
                     "0, 1, 2 or 3"
                 } else {
                     "0 or 1 inside a loop"
                 };
-                return Err(self.bad(name, &format!("its kind is {other}, but must be {known}")));
+                return Err(self.bad(name, &format!("its kind is {kind}, but must be {known}")));
             }
         };
         Ok(Step { kind, from, to })

@@ -2,11 +2,12 @@
 
 use crate::calls::{check_evidence, judge, write_evidence};
 use crate::generate::{generate_sized, Class};
+use crate::limits::MAX_STATES;
 use crate::program::OUTPUT;
 use crate::regions::Regions;
 use std::time::{Duration, Instant};
 
-const SCRATCH: [usize; 4] = [20_000; 4];
+const SCRATCH: [usize; 4] = [MAX_STATES; 4];
 const MODELS: u64 = 5;
 const REPEATS: usize = 5;
 
@@ -33,11 +34,7 @@ fn fastest<T>(mut run: impl FnMut() -> T) -> Duration {
 /// One line per size and class, with the slowest of some models.
 pub fn bench(mut line: impl FnMut(String)) {
     let begin = Instant::now();
-    for clocks in 1..=3 {
-        for ceiling in 1..=4 {
-            Regions::of(clocks, ceiling);
-        }
-    }
+    Regions::all().for_each(drop);
     line(format!(
         "all region tables, once per process: {} us",
         begin.elapsed().as_micros()

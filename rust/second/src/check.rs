@@ -4,7 +4,7 @@
 use crate::graph::{jump_step, time_step, Graph, FACE, JUMP, TIME, TOUCH};
 use crate::numbers::Reader;
 use crate::refusal::*;
-use crate::sheet::{keeps_rules, SHEET};
+use crate::sheet::{greatest_number, keeps_rules, SHEET};
 use crate::trail::TRAIL;
 
 /// Checks evidence for the model of a graph; 1 for a passing sheet, 2 for a
@@ -21,7 +21,7 @@ pub fn check(graph: &Graph, evidence: &[u8]) -> Result<u32, Refusal> {
 }
 
 fn check_sheet(graph: &Graph, reader: &mut Reader) -> Result<(), Refusal> {
-    let most = 2 * graph.states() as u32 - 1;
+    let most = greatest_number(graph.states());
     let mut numbers = Vec::with_capacity(graph.states());
     for state in 0..graph.states() {
         let number = reader.number()?;

@@ -2,6 +2,7 @@
 //! a loop that only drift can leave.
 
 use crate::generate::Class;
+use crate::limits::{MAX_CEILING, MAX_CLOCKS, MAX_EDGES, MAX_LOCATIONS, NUMBER_BYTES};
 use crate::model::read_model;
 use crate::numbers::{push_padded, shortest};
 use crate::random::Random;
@@ -30,9 +31,9 @@ impl Shape {
 /// One of the sizes that are wanted, if there is one.
 pub fn pick_shape(random: &mut Random, wanted: impl Fn(&Shape) -> bool) -> Option<Shape> {
     let mut shapes = Vec::new();
-    for clocks in 1..=3 {
-        for ceiling in 1..=4 {
-            for locations in 1..=8 {
+    for clocks in 1..=MAX_CLOCKS {
+        for ceiling in 1..=MAX_CEILING.into() {
+            for locations in 1..=MAX_LOCATIONS {
                 let shape = Shape {
                     clocks,
                     ceiling,
@@ -117,11 +118,11 @@ impl Draft {
         }
     }
 
-    /// Adds random edges, as far as the limit of 24 allows. One that would
+    /// Adds random edges, as far as the limit allows. One that would
     /// close a walk with a clock unreset resets all clocks instead.
     fn add_random_edges(&mut self, random: &mut Random, count: usize) {
         for _ in 0..count {
-            if self.edges.len() == 24 {
+            if self.edges.len() == MAX_EDGES {
                 return;
             }
             let locations = self.kinds.len();
@@ -159,9 +160,9 @@ pub fn padded(random: &mut Random, numbers: &[u32]) -> Vec<u8> {
     let sure = random.below(numbers.len());
     for (index, &number) in numbers.iter().enumerate() {
         let length = if index == sure {
-            random.range(2, 3)
+            random.range(2, NUMBER_BYTES)
         } else {
-            random.range(1, 3)
+            random.range(1, NUMBER_BYTES)
         };
         push_padded(&mut bytes, number, length);
     }
@@ -251,7 +252,7 @@ pub fn random_draft(random: &mut Random, shape: &Shape) -> Draft {
         let rarely = if place == draft.start { 16 } else { 4 };
         draft.kinds[place] = u32::from(random.one_in(rarely));
     }
-    let count = random.range(0, (3 * shape.locations).min(24));
+    let count = random.range(0, (3 * shape.locations).min(MAX_EDGES));
     draft.add_random_edges(random, count);
     draft.vary_stays(random, true);
     draft

@@ -9,12 +9,15 @@ use crate::calls::states_of;
 use crate::components::Components;
 use crate::draft::{loop_draft, padded, pick_shape, random_draft, Draft, Shape};
 use crate::graph::Graph;
+use crate::limits::{MAX_CEILING, MAX_CLOCKS, MAX_EDGES, MAX_LOCATIONS, MAX_STATES};
 use crate::marking::{is_unsafe, reached, Closure};
 use crate::model::{read_model, Model};
 use crate::numbers::{shortest, LARGEST};
+use crate::program::SCRATCH;
 use crate::random::Random;
-use crate::refusal::Refusal;
+use crate::refusal::*;
 use std::collections::BTreeMap;
+use std::convert::Infallible;
 
 /// The kinds that `generate` knows.
 pub const KINDS: [&str; 20] = [
@@ -93,15 +96,15 @@ pub fn generate(seed: u64, kind: &str) -> Option<Vec<u8>> {
             (SMALL + 1..=MIDDLE).contains(&shape.states())
         })
         .bytes(),
-        "largest" => accepted(random, None, |shape| shape.states() == LARGEST_STATES).bytes(),
+        "largest" => accepted(random, None, |shape| shape.states() == MAX_STATES).bytes(),
         "clocks-1" => accepted(random, None, |shape| shape.clocks == 1).bytes(),
         "clocks-2" => accepted(random, None, |shape| shape.clocks == 2).bytes(),
         "clocks-3" => accepted(random, None, |shape| shape.clocks == 3 && usual(shape)).bytes(),
         "refused-1" => cut(random),
         "refused-2" => too_long(random),
-        "refused-3" => out_of_range(random, 3),
-        "refused-4" => out_of_range(random, 4),
-        "refused-5" => out_of_range(random, 5),
+        "refused-3" => out_of_range(random, BAD_HEADER),
+        "refused-4" => out_of_range(random, BAD_LOCATION),
+        "refused-5" => out_of_range(random, BAD_EDGE),
         "refused-6" => extended(random),
         "refused-7" => {
             let shape = pick_shape(random, |_| true)?;
@@ -132,8 +135,10 @@ pub fn generate_sized(
 /// Sizes by number of states. The scratch of the programs reaches to MIDDLE.
 pub const TINY: usize = 40;
 pub const SMALL: usize = 160;
-pub const MIDDLE: usize = 4_000;
-pub const LARGEST_STATES: usize = 8 * 1_977;
+pub const MIDDLE: usize = SCRATCH;
+
+/// So many drawings are tried for a class, at first with noise.
+const TRIES: usize = 24;
 
 /// Sizes of models whose kind does not name a size.
 fn usual(shape: &Shape) -> bool {
@@ -153,9 +158,9 @@ fn accepted(random: &mut Random, class: Option<Class>, wanted: impl Fn(&Shape) -
             None => class = Class::Plain, // one clock does not drift away
         }
     }
-    for attempt in 0..24 {
+    for attempt in 0..TRIES {
         let draft = if shape.has_room_for_drift() && (class == Class::Drift || random.one_in(2)) {
-            loop_draft(random, &shape, class, attempt < 12)
+            loop_draft(random, &shape, class, attempt < TRIES / 2)
         } else {
             random_draft(random, &shape)
         };
@@ -177,7 +182,7 @@ fn accepted(random: &mut Random, class: Option<Class>, wanted: impl Fn(&Shape) -
 /// A draft to damage: of any size, since refusals 1 to 7 come before 8.
 fn any_draft(random: &mut Random) -> Draft {
     let shape = pick_shape(random, |shape| {
-        shape.states() <= SMALL || shape.locations == 8
+        shape.states() <= SMALL || shape.locations == MAX_LOCATIONS
     })
     .expect("a size that there is");
     if shape.has_room_for_drift() && random.one_in(2) {
@@ -214,19 +219,12 @@ fn too_long(random: &mut Random) -> Vec<u8> {
 }
 
 /// The refusal and the greatest value of each number of a model, in order.
-fn fields(draft: &Draft) -> Vec<(Refusal, u32)> {
-    let last_location = draft.kinds.len() as u32 - 1;
-    let mut fields = [1, 3, 4, 8, 24, last_location]
-        .map(|most| (3, most))
-        .to_vec();
-    for _ in &draft.kinds {
-        fields.push((4, 1));
-        fields.extend(vec![(4, draft.ceiling + 1); draft.clocks]);
-    }
-    for _ in &draft.edges {
-        fields.extend([last_location, last_location, draft.all_clocks()].map(|most| (5, most)));
-        fields.extend(vec![(5, draft.ceiling); 2 * draft.clocks]);
-    }
+fn fields(numbers: &[u32]) -> Vec<(Refusal, u32)> {
+    let mut fields = Vec::new();
+    let _: Result<Model, Infallible> = Model::from_fields(&mut |field, range| {
+        fields.push((field.refusal(), *range.end()));
+        Ok(numbers[fields.len() - 1])
+    });
     fields
 }
 
@@ -238,13 +236,13 @@ fn out_of_range(random: &mut Random, refusal: Refusal) -> Vec<u8> {
         draft.edges.push(edge);
     }
     let mut numbers = draft.numbers();
-    let fields = fields(&draft);
+    let fields = fields(&numbers);
     let places: Vec<usize> = (0..fields.len())
         .filter(|&at| fields[at].0 == refusal)
         .collect();
     let mut place = *random.pick(&places);
     let most = fields[place].1;
-    if refusal == 5 && random.one_in(4) {
+    if refusal == BAD_EDGE && random.one_in(4) {
         // A low above its high, both within range.
         let edge = random.below(draft.edges.len());
         let low = places[edge * (3 + 2 * draft.clocks) + 3 + 2 * random.below(draft.clocks)];
@@ -301,7 +299,7 @@ fn unreset(random: &mut Random, shape: &Shape) -> Draft {
     let mut draft = random_draft(random, shape);
     let clock = random.below(shape.clocks);
     let length = random.range(1, 4.min(shape.locations));
-    draft.edges.truncate(24 - length);
+    draft.edges.truncate(MAX_EDGES - length);
     let mut places: Vec<usize> = (0..shape.locations).collect();
     random.shuffle(&mut places);
     for at in 0..length {
@@ -322,8 +320,8 @@ fn noise(random: &mut Random) -> Vec<u8> {
     } else {
         let header = [
             1,
-            random.range(1, 3),
-            random.range(1, 4),
+            random.range(1, MAX_CLOCKS),
+            random.range(1, MAX_CEILING.into()),
             random.range(1, 3),
             random.range(0, 3),
             0,
@@ -355,7 +353,7 @@ pub fn shares(count: usize) -> String {
                 let size = [TINY, SMALL, MIDDLE]
                     .into_iter()
                     .find(|&size| states <= size);
-                *sizes.entry(size.unwrap_or(LARGEST_STATES)).or_default() += 1;
+                *sizes.entry(size.unwrap_or(MAX_STATES)).or_default() += 1;
                 too_large += usize::from(states > MIDDLE);
             }
             Err(refusal) => *refusals.entry(refusal).or_default() += 1,

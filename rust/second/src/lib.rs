@@ -1,9 +1,10 @@
 //! A second drift checker for timed automata, written from document 01 alone.
 //!
 //! The modules follow the order of that document: numbers, models, regions,
-//! steps, the marked set, evidence, calls. `brute` does everything again by
-//! naive definitions; `generate`, `mutate` and `other` make inputs for
-//! comparisons, `cases` those of a proved program.
+//! steps, the marked set, evidence, calls. `limits` has the limits of all of
+//! them. `brute` does everything again by naive definitions; `generate`,
+//! `mutate` and `other` make inputs for comparisons, `cases` those of a proved
+//! program.
 
 // Loops over clocks and states index several lists at once.
 #![allow(clippy::needless_range_loop)]
@@ -17,6 +18,7 @@ pub mod components;
 pub mod draft;
 pub mod generate;
 pub mod graph;
+pub mod limits;
 pub mod marking;
 pub mod model;
 pub mod mutate;

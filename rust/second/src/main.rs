@@ -13,7 +13,9 @@ use second::regions::Regions;
 use std::io::{Read, Write};
 use std::process::ExitCode;
 
-const USAGE: &str = "\
+fn usage() -> String {
+    format!(
+        "\
 second judge FILE|- [SCRATCH]            three lines, or the refusal line
 second evidence FILE|- [SCRATCH]         evidence bytes, or the refusal line
 second marks FILE|- [SCRATCH]            one byte per state, 1 or 0, or the refusal line
@@ -30,8 +32,10 @@ second answers FILE|- [SCRATCH]          those cases with their answers
 second bench                             timings
 
 A file whose name ends in .plan holds bytes as text; - is standard input.
---scratch N and --output N change the lengths lent (4000 and 65536).
-";
+--scratch N and --output N change the lengths lent ({SCRATCH} and {OUTPUT}).
+"
+    )
+}
 
 fn main() -> ExitCode {
     match run(std::env::args().skip(1).collect()) {
@@ -110,7 +114,7 @@ fn run(mut arguments: Vec<String>) -> Result<Vec<u8>, String> {
             bench(|line| println!("{line}"));
             Ok(Vec::new())
         }
-        _ => Err(USAGE.to_string()),
+        _ => Err(usage()),
     }
 }
 
@@ -151,15 +155,14 @@ fn read(file: &str) -> Result<Vec<u8>, String> {
 /// checksums of successors, corners, faces and near regions.
 fn region_lines() -> String {
     let mut lines = String::new();
-    for clocks in 1..=3 {
-        for ceiling in 1..=4 {
-            let table = Regions::of(clocks, ceiling);
-            let [successors, corners, faces, near] = table.checksums();
-            lines += &format!(
-                "{clocks} {ceiling} {} {successors} {corners} {faces} {near}\n",
-                table.count()
-            );
-        }
+    for table in Regions::all() {
+        let [successors, corners, faces, near] = table.checksums();
+        lines += &format!(
+            "{} {} {} {successors} {corners} {faces} {near}\n",
+            table.clocks,
+            table.ceiling,
+            table.count()
+        );
     }
     lines
 }

@@ -1,18 +1,16 @@
 //! Models: reading the bytes (refusals 1 to 6) and the test that each closed
 //! walk of edges resets each clock (refusal 7).
 
+use crate::limits::{MAX_CEILING, MAX_CLOCKS, MAX_EDGES, MAX_LOCATIONS};
 use crate::numbers::Reader;
 use crate::refusal::*;
-
-/// At most this many clocks; arrays over clocks have this length, and the
-/// entries past the model's own clocks are 0.
-pub const CLOCKS: usize = 3;
+use std::ops::RangeInclusive;
 
 #[derive(Clone, Debug, PartialEq, Eq)]
 pub struct Location {
     pub forbidden: bool,
     /// Per clock the limit of the invariant ("stay limit"), at most the ceiling.
-    pub limit: [u8; CLOCKS],
+    pub limit: [u8; MAX_CLOCKS],
 }
 
 #[derive(Clone, Debug, PartialEq, Eq)]
@@ -22,8 +20,8 @@ pub struct Edge {
     /// Bit i resets clock i.
     pub resets: u8,
     /// The guard: low <= clock <= high.
-    pub low: [u8; CLOCKS],
-    pub high: [u8; CLOCKS],
+    pub low: [u8; MAX_CLOCKS],
+    pub high: [u8; MAX_CLOCKS],
 }
 
 #[derive(Clone, Debug, PartialEq, Eq)]
@@ -35,69 +33,55 @@ pub struct Model {
     pub edges: Vec<Edge>,
 }
 
+/// What a number of a model stands for; clocks, locations and edges are
+/// counted from 0.
+#[derive(Clone, Copy, Debug, PartialEq, Eq)]
+pub enum Field {
+    Mark,
+    Clocks,
+    Ceiling,
+    Locations,
+    Edges,
+    Start,
+    Kind { location: usize },
+    Stay { location: usize, clock: usize },
+    From { edge: usize },
+    To { edge: usize },
+    Resets { edge: usize },
+    Low { edge: usize, clock: usize },
+    High { edge: usize, clock: usize },
+}
+
+impl Field {
+    /// The refusal of a number out of its range.
+    pub fn refusal(self) -> Refusal {
+        use Field::*;
+        match self {
+            Mark | Clocks | Ceiling | Locations | Edges | Start => BAD_HEADER,
+            Kind { .. } | Stay { .. } => BAD_LOCATION,
+            From { .. } | To { .. } | Resets { .. } | Low { .. } | High { .. } => BAD_EDGE,
+        }
+    }
+}
+
+/// Gives the next number of a model, which stands for this and must be within
+/// this range; or ends the reading.
+type Next<'a, E> = &'a mut dyn FnMut(Field, RangeInclusive<u32>) -> Result<u32, E>;
+
 /// Reads a whole model; refusals 1 to 7 in the order of document 01.
 pub fn read_model(bytes: &[u8]) -> Result<Model, Refusal> {
     let mut reader = Reader::new(bytes);
-    let mut field = |low: u32, high: u32, refusal: Refusal| -> Result<u32, Refusal> {
-        let value = reader.number()?;
-        if value < low || value > high {
-            return Err(refusal);
+    let model = Model::from_fields(&mut |field, range| {
+        let number = reader.number()?;
+        if range.contains(&number) {
+            Ok(number)
+        } else {
+            Err(field.refusal())
         }
-        Ok(value)
-    };
-
-    field(1, 1, BAD_HEADER)?; // the mark
-    let clocks = field(1, 3, BAD_HEADER)?;
-    let ceiling = field(1, 4, BAD_HEADER)?;
-    let location_count = field(1, 8, BAD_HEADER)?;
-    let edge_count = field(0, 24, BAD_HEADER)?;
-    let start = field(0, location_count - 1, BAD_HEADER)?;
-
-    let mut locations = Vec::new();
-    for _ in 0..location_count {
-        let forbidden = field(0, 1, BAD_LOCATION)? == 1;
-        let mut limit = [0; CLOCKS];
-        for limit in limit.iter_mut().take(clocks as usize) {
-            // 0 stands for the ceiling, any other s for limit s-1.
-            let stay = field(0, ceiling + 1, BAD_LOCATION)?;
-            *limit = if stay == 0 { ceiling } else { stay - 1 } as u8;
-        }
-        locations.push(Location { forbidden, limit });
-    }
-
-    let mut edges = Vec::new();
-    for _ in 0..edge_count {
-        let from = field(0, location_count - 1, BAD_EDGE)? as usize;
-        let to = field(0, location_count - 1, BAD_EDGE)? as usize;
-        let resets = field(0, (1 << clocks) - 1, BAD_EDGE)? as u8;
-        let mut low = [0; CLOCKS];
-        let mut high = [0; CLOCKS];
-        for clock in 0..clocks as usize {
-            let at_least = field(0, ceiling, BAD_EDGE)?;
-            // One range serves for both tests made when the high is read.
-            let at_most = field(at_least, ceiling, BAD_EDGE)?;
-            low[clock] = at_least as u8;
-            high[clock] = at_most as u8;
-        }
-        edges.push(Edge {
-            from,
-            to,
-            resets,
-            low,
-            high,
-        });
-    }
-
+    })?;
     if !reader.at_end() {
         return Err(BYTES_REMAIN);
     }
-    let model = Model {
-        clocks: clocks as usize,
-        ceiling: ceiling as u8,
-        start: start as usize,
-        locations,
-        edges,
-    };
     if model.leaves_a_clock_unreset() {
         return Err(CLOCK_UNRESET);
     }
@@ -105,6 +89,71 @@ pub fn read_model(bytes: &[u8]) -> Result<Model, Refusal> {
 }
 
 impl Model {
+    /// The model of numbers that are asked for one by one, in the order of the
+    /// bytes: whoever gives them sees what each one stands for.
+    pub fn from_fields<E>(next: Next<E>) -> Result<Model, E> {
+        next(Field::Mark, 1..=1)?;
+        let clocks = next(Field::Clocks, 1..=MAX_CLOCKS as u32)?;
+        let ceiling = next(Field::Ceiling, 1..=MAX_CEILING.into())?;
+        let locations = next(Field::Locations, 1..=MAX_LOCATIONS as u32)?;
+        let edges = next(Field::Edges, 0..=MAX_EDGES as u32)?;
+        let start = next(Field::Start, 0..=locations - 1)?;
+        let mut model = Model {
+            clocks: clocks as usize,
+            ceiling: ceiling as u8,
+            start: start as usize,
+            locations: Vec::with_capacity(locations as usize),
+            edges: Vec::with_capacity(edges as usize),
+        };
+        for _ in 0..locations {
+            model.push_location(next)?;
+        }
+        for _ in 0..edges {
+            model.push_edge(next)?;
+        }
+        Ok(model)
+    }
+
+    fn push_location<E>(&mut self, next: Next<E>) -> Result<(), E> {
+        let location = self.locations.len();
+        let ceiling = u32::from(self.ceiling);
+        let forbidden = next(Field::Kind { location }, 0..=1)? == 1;
+        let mut limit = [0; MAX_CLOCKS];
+        for clock in 0..self.clocks {
+            // 0 stands for the ceiling, any other s for limit s-1.
+            let stay = next(Field::Stay { location, clock }, 0..=ceiling + 1)?;
+            limit[clock] = stay.checked_sub(1).unwrap_or(ceiling) as u8;
+        }
+        self.locations.push(Location { forbidden, limit });
+        Ok(())
+    }
+
+    fn push_edge<E>(&mut self, next: Next<E>) -> Result<(), E> {
+        let edge = self.edges.len();
+        let last = self.locations.len() as u32 - 1;
+        let ceiling = u32::from(self.ceiling);
+        let from = next(Field::From { edge }, 0..=last)? as usize;
+        let to = next(Field::To { edge }, 0..=last)? as usize;
+        let resets = next(Field::Resets { edge }, 0..=(1 << self.clocks) - 1)? as u8;
+        let mut low = [0; MAX_CLOCKS];
+        let mut high = [0; MAX_CLOCKS];
+        for clock in 0..self.clocks {
+            let at_least = next(Field::Low { edge, clock }, 0..=ceiling)?;
+            // One range serves for both tests made when the high is read.
+            let at_most = next(Field::High { edge, clock }, at_least..=ceiling)?;
+            low[clock] = at_least as u8;
+            high[clock] = at_most as u8;
+        }
+        self.edges.push(Edge {
+            from,
+            to,
+            resets,
+            low,
+            high,
+        });
+        Ok(())
+    }
+
     /// Whether some closed walk of edges leaves some clock unreset. Guards
     /// and invariants play no part: only the drawing is looked at.
     pub fn leaves_a_clock_unreset(&self) -> bool {

@@ -3,11 +3,13 @@
 
 use crate::components::Components;
 use crate::graph::{Graph, FACE, JUMP, TIME, TOUCH};
+use crate::limits::{MAX_EDGES, NUMBER_BYTES};
 use crate::marking::{reached, Closure};
 use crate::model::read_model;
-use crate::numbers::{number_at, push_padded, shortest, LARGEST};
+use crate::numbers::{numbers_of, push_padded, shortest, LARGEST};
 use crate::random::Random;
-use crate::sheet::our_sheet;
+use crate::sheet::{greatest_number, our_sheet, SHEET};
+use crate::trail::TRAIL;
 
 /// The kinds of change, each with what it does.
 pub const KINDS: [(&str, &str); 19] = [
@@ -56,9 +58,9 @@ pub fn mutate_as(seed: u64, kind: &str, model: &[u8], evidence: &[u8]) -> Option
         }
         _ => {
             let graph = Graph::new(read_model(model).ok()?);
-            let numbers = numbers_of(evidence).filter(|numbers| !numbers.is_empty())?;
+            let numbers = some_numbers_of(evidence)?;
             match kind {
-                "equal" if numbers[0] == 2 => Some(hidden_loop(&graph)),
+                "equal" if numbers[0] == TRAIL => Some(hidden_loop(&graph)),
                 "lower" | "equal" | "flip" | "above" | "raise" => {
                     change_sheet(random, kind, &graph, numbers)
                 }
@@ -68,16 +70,10 @@ pub fn mutate_as(seed: u64, kind: &str, model: &[u8], evidence: &[u8]) -> Option
     }
 }
 
-/// The numbers of evidence, if its bytes spell numbers to the end.
-fn numbers_of(evidence: &[u8]) -> Option<Vec<u32>> {
-    let mut numbers = Vec::new();
-    let mut at = 0;
-    while at < evidence.len() {
-        let (number, next) = number_at(evidence, at).ok()?;
-        numbers.push(number);
-        at = next;
-    }
-    Some(numbers)
+/// The numbers of evidence, if its bytes spell some and nothing else.
+fn some_numbers_of(evidence: &[u8]) -> Option<Vec<u32>> {
+    let numbers = numbers_of(evidence).ok()?;
+    (!numbers.is_empty()).then_some(numbers)
 }
 
 /// Changes that need no model.
@@ -92,7 +88,7 @@ fn change_bytes(random: &mut Random, kind: &str, evidence: &[u8]) -> Option<Vec<
             }
         }
         _ => {
-            let mut numbers = numbers_of(evidence).filter(|numbers| !numbers.is_empty())?;
+            let mut numbers = some_numbers_of(evidence)?;
             let at = random.below(numbers.len());
             match kind {
                 "change" => {
@@ -106,7 +102,7 @@ fn change_bytes(random: &mut Random, kind: &str, evidence: &[u8]) -> Option<Vec<
                 "pad" => {
                     bytes.clear();
                     for &number in &numbers {
-                        push_padded(&mut bytes, number, random.range(1, 3));
+                        push_padded(&mut bytes, number, random.range(1, NUMBER_BYTES));
                     }
                 }
                 _ => {
@@ -142,7 +138,7 @@ fn change_sheet(
     mut numbers: Vec<u32>,
 ) -> Option<Vec<u8>> {
     let states = graph.states();
-    if numbers[0] != 1 || numbers.len() != states + 1 {
+    if numbers[0] != SHEET || numbers.len() != states + 1 {
         return None;
     }
     let sheet = &mut numbers[1..];
@@ -199,7 +195,7 @@ fn change_sheet(
         }
         "above" => {
             let state = random.below(states);
-            let most = 2 * states as u32 - 1;
+            let most = greatest_number(states);
             sheet[state] = match random.below(4) {
                 0 => most,
                 1 => most + 1,
@@ -267,7 +263,7 @@ fn parse(graph: &Graph, numbers: &[u32]) -> Option<Parsed> {
         walks: Vec::new(),
     };
     let number = |parsed: &Parsed| numbers.get(parsed.roles.len() + 1).copied();
-    if numbers[0] != 2 {
+    if numbers[0] != TRAIL {
         return None;
     }
     for _ in 0..*numbers.get(1)? {
@@ -321,7 +317,9 @@ fn change_trail(
         }
         "edge" => {
             let place = *random.pick(&places(&[Role::Edge, Role::WalkEdge])?);
-            numbers[place] = (numbers[place] + random.range(1, 24) as u32) % 25;
+            // Another one, up to the first that no model has.
+            let edges = MAX_EDGES as u32 + 1;
+            numbers[place] = (numbers[place] + random.range(1, MAX_EDGES) as u32) % edges;
         }
         "region" => {
             let place = *random.pick(&places(&[Role::Region])?);

@@ -1,17 +1,18 @@
 //! Numbers: one to three groups of seven bits, lowest group first, one group
 //! per byte. The top bit of a byte says that another group follows.
 
+use crate::limits::NUMBER_BYTES;
 use crate::refusal::{Refusal, ENDS_TOO_SOON, NUMBER_TOO_LONG};
 
-/// The largest value that three groups can spell.
-pub const LARGEST: u32 = (1 << 21) - 1;
+/// The largest value that there is a spelling of.
+pub const LARGEST: u32 = (1 << (7 * NUMBER_BYTES)) - 1;
 
 /// Reads the number whose first byte stands at `at`. Gives the number and
 /// the place after it, or refusal 1 or 2.
 pub fn number_at(bytes: &[u8], at: usize) -> Result<(u32, usize), Refusal> {
     let rest = bytes.get(at..).unwrap_or(&[]);
     let mut value = 0;
-    for group in 0..3 {
+    for group in 0..NUMBER_BYTES {
         let Some(&byte) = rest.get(group) else {
             return Err(ENDS_TOO_SOON);
         };
@@ -43,16 +44,26 @@ pub fn shortest(numbers: &[u32]) -> Vec<u8> {
     bytes
 }
 
-/// Appends a spelling of `length` bytes (1 to 3), padded with empty groups.
-/// A value that needs more bytes gets as many as it needs.
+/// Appends a spelling of `length` bytes, padded with empty groups. A value
+/// that needs more bytes gets as many as it needs, and none gets too many.
 pub fn push_padded(bytes: &mut Vec<u8>, value: u32, length: usize) {
     let first = bytes.len();
     push_number(bytes, value);
-    while bytes.len() - first < length.min(3) {
+    while bytes.len() - first < length.min(NUMBER_BYTES) {
         let last = bytes.len() - 1;
         bytes[last] |= 0x80;
         bytes.push(0);
     }
+}
+
+/// All numbers that bytes spell; the refusal if they do not end with one.
+pub fn numbers_of(bytes: &[u8]) -> Result<Vec<u32>, Refusal> {
+    let mut reader = Reader::new(bytes);
+    let mut numbers = Vec::new();
+    while !reader.at_end() {
+        numbers.push(reader.number()?);
+    }
+    Ok(numbers)
 }
 
 /// The reader: a slice with an offset. A refusal leaves it at the first byte
@@ -77,8 +88,13 @@ impl<'a> Reader<'a> {
         self.at
     }
 
+    /// How many bytes are still to be read.
+    pub fn left(&self) -> usize {
+        self.bytes.len() - self.at
+    }
+
     pub fn at_end(&self) -> bool {
-        self.at == self.bytes.len()
+        self.left() == 0
     }
 }
 
@@ -118,7 +134,7 @@ mod tests {
     #[test]
     fn spellings_read_back() {
         for value in (0..300).chain([16_383, 16_384, 31_631, LARGEST]) {
-            for length in 1..=3 {
+            for length in 1..=NUMBER_BYTES {
                 let mut bytes = vec![9];
                 push_padded(&mut bytes, value, length);
                 assert_eq!(number_at(&bytes, 1), Ok((value, bytes.len())));

@@ -30,3 +30,6 @@ pub const SHEET_RULE_BROKEN: Refusal = 12;
 pub const BAD_STEP: Refusal = 13;
 /// The trail ends in an ordinary location.
 pub const ENDS_ORDINARY: Refusal = 14;
+
+/// They are numbered from 1 to this.
+pub const LAST: Refusal = ENDS_ORDINARY;

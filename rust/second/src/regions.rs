@@ -1,19 +1,24 @@
 //! Regions: whole parts and ranks of fractions, their order, corners, faces
 //! and time successors, and a table of all of them per clocks and ceiling.
 
-use crate::model::{Edge, Location, CLOCKS};
+use crate::limits::{MAX_CEILING, MAX_CLOCKS};
+use crate::model::{Edge, Location};
 use std::sync::OnceLock;
 
 /// A whole point of the clocks.
-pub type Point = [u8; CLOCKS];
+pub type Point = [u8; MAX_CLOCKS];
 
-/// Points are numbered as digits of base 5, since a clock is at most 4.
-pub const POINTS: usize = 125;
+/// How many values a whole part and a rank can have: the bases in which points
+/// and regions are numbered.
+const WHOLES: usize = MAX_CEILING as usize + 1;
+const RANKS: usize = MAX_CLOCKS + 1;
+
+pub const POINTS: usize = WHOLES.pow(MAX_CLOCKS as u32);
 
 pub fn point_number(point: &Point) -> usize {
     point
         .iter()
-        .fold(0, |number, &digit| number * 5 + digit as usize)
+        .fold(0, |number, &digit| number * WHOLES + digit as usize)
 }
 
 /// A region gives each clock a whole part and the rank of its fraction: rank
@@ -22,15 +27,15 @@ pub fn point_number(point: &Point) -> usize {
 /// document 01: whole parts, then ranks, read as a list.
 #[derive(Clone, Copy, Debug, PartialEq, Eq, PartialOrd, Ord)]
 pub struct Region {
-    pub whole: [u8; CLOCKS],
-    pub rank: [u8; CLOCKS],
+    pub whole: [u8; MAX_CLOCKS],
+    pub rank: [u8; MAX_CLOCKS],
 }
 
 impl Region {
     /// All clocks 0.
     pub const ZERO: Region = Region {
-        whole: [0; CLOCKS],
-        rank: [0; CLOCKS],
+        whole: [0; MAX_CLOCKS],
+        rank: [0; MAX_CLOCKS],
     };
 
     /// The largest rank present (g).
@@ -76,7 +81,7 @@ impl Region {
 
     /// Sets the clocks of the mask to 0 and closes up the remaining ranks.
     pub fn reset(mut self, mask: u8) -> Region {
-        for clock in 0..CLOCKS {
+        for clock in 0..MAX_CLOCKS {
             if mask >> clock & 1 == 1 {
                 self.whole[clock] = 0;
                 self.rank[clock] = 0;
@@ -95,7 +100,7 @@ impl Region {
     pub fn corners(&self) -> Vec<Point> {
         let raised = |t: u8| {
             let mut point = self.whole;
-            for clock in 0..CLOCKS {
+            for clock in 0..MAX_CLOCKS {
                 point[clock] += u8::from(self.rank[clock] >= t);
             }
             point
@@ -118,7 +123,7 @@ impl Region {
                     .map(|i| &chain[i])
                     .collect();
                 let whole = *chosen[0];
-                let mut rank = [0; CLOCKS];
+                let mut rank = [0; MAX_CLOCKS];
                 for (clock, rank) in rank.iter_mut().enumerate() {
                     *rank = chosen
                         .iter()
@@ -161,23 +166,28 @@ pub struct Regions {
     pub at_corner: Vec<Vec<usize>>,
 }
 
-/// Packs whole parts as digits of base 5 and ranks as digits of base 4.
+/// The number of a region: its whole parts as digits, then its ranks.
 fn packed(region: &Region) -> usize {
     region
         .rank
         .iter()
         .fold(point_number(&region.whole), |number, &rank| {
-            number * 4 + rank as usize
+            number * RANKS + rank as usize
         })
 }
 
 impl Regions {
     /// The table, built at its first use.
     pub fn of(clocks: usize, ceiling: u8) -> &'static Regions {
-        static TABLES: [OnceLock<Regions>; 12] = [const { OnceLock::new() }; 12];
-        assert!((1..=CLOCKS).contains(&clocks) && (1..=4).contains(&ceiling));
-        TABLES[(clocks - 1) * 4 + ceiling as usize - 1]
-            .get_or_init(|| Regions::build(clocks, ceiling))
+        static TABLES: [[OnceLock<Regions>; MAX_CEILING as usize]; MAX_CLOCKS] =
+            [const { [const { OnceLock::new() }; MAX_CEILING as usize] }; MAX_CLOCKS];
+        TABLES[clocks - 1][usize::from(ceiling) - 1].get_or_init(|| Regions::build(clocks, ceiling))
+    }
+
+    /// The tables for all clocks and ceilings, in this order.
+    pub fn all() -> impl Iterator<Item = &'static Regions> {
+        (1..=MAX_CLOCKS)
+            .flat_map(|clocks| (1..=MAX_CEILING).map(move |ceiling| Regions::of(clocks, ceiling)))
     }
 
     fn build(clocks: usize, ceiling: u8) -> Regions {
@@ -190,7 +200,7 @@ impl Regions {
                 }
             }
         }
-        let mut position = vec![None; POINTS * 64];
+        let mut position = vec![None; POINTS * RANKS.pow(MAX_CLOCKS as u32)];
         for (index, region) in list.iter().enumerate() {
             position[packed(region)] = Some(index as u16);
         }
@@ -302,8 +312,8 @@ impl Regions {
 
 /// All lists of numbers 0..=most for the clocks, ascending; the entries of
 /// clocks that are not there stay 0.
-fn lists(clocks: usize, most: u8) -> Vec<[u8; CLOCKS]> {
-    let mut all = vec![[0; CLOCKS]];
+fn lists(clocks: usize, most: u8) -> Vec<[u8; MAX_CLOCKS]> {
+    let mut all = vec![[0; MAX_CLOCKS]];
     for clock in 0..clocks {
         let mut longer = Vec::new();
         for list in &all {
@@ -321,20 +331,13 @@ fn lists(clocks: usize, most: u8) -> Vec<[u8; CLOCKS]> {
 #[cfg(test)]
 mod tests {
     use super::*;
+    use crate::limits::region_count;
 
     #[test]
     fn counts_by_formula_and_order() {
-        for m in 1..=4usize {
-            let formula = [
-                2 * m + 1,
-                6 * m * m + 4 * m + 1,
-                (m + 1).pow(3) + 3 * m * (m + 1).pow(2) + 9 * m * m * (m + 1) + 13 * m.pow(3),
-            ];
-            for n in 1..=3 {
-                let table = Regions::of(n, m as u8);
-                assert_eq!(table.count(), formula[n - 1]);
-                assert!(table.list.windows(2).all(|pair| pair[0] < pair[1]));
-            }
+        for table in Regions::all() {
+            assert_eq!(table.count(), region_count(table.clocks, table.ceiling));
+            assert!(table.list.windows(2).all(|pair| pair[0] < pair[1]));
         }
     }
 
@@ -364,7 +367,7 @@ mod tests {
 
     #[test]
     fn faces_are_proper_subsets_of_corners() {
-        for clocks in 1..=3 {
+        for clocks in 1..=MAX_CLOCKS {
             let table = Regions::of(clocks, 2);
             for one in 0..table.count() {
                 for other in 0..table.count() {

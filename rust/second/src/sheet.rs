@@ -9,6 +9,11 @@ use crate::numbers::push_number;
 /// The number with which a sheet begins.
 pub const SHEET: u32 = 1;
 
+/// The greatest number in a sheet of so many states, the 1 at its front apart.
+pub fn greatest_number(states: usize) -> u32 {
+    2 * states as u32 - 1
+}
+
 /// The sheet we write for a safe model: the marked set, with the heights
 /// that the components give.
 pub fn our_sheet(graph: &Graph, components: &Components, marked: &[bool]) -> Vec<u8> {

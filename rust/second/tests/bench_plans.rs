@@ -4,6 +4,7 @@ mod common;
 
 use common::*;
 use second::generate::{classify, Class};
+use second::limits::MAX_CEILING;
 use second::number_at;
 use second::program::{evidence_bytes, judge_lines, OUTPUT, SCRATCH};
 use second::read_model;
@@ -96,7 +97,7 @@ fn limit_of_the_edges() {
 
 #[test]
 fn limit_of_the_stay_field() {
-    for ceiling in 1..=4 {
+    for ceiling in 1..=MAX_CEILING {
         assert!(read_model(&[1, 1, ceiling, 1, 0, 0, 0, ceiling + 1]).is_ok());
         assert_eq!(
             read_model(&[1, 1, ceiling, 1, 0, 0, 0, ceiling + 2]),

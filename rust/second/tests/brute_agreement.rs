@@ -7,6 +7,7 @@ use second::brute::regions::NaiveRegions;
 use second::brute::trails::{least_of_all, least_trail, least_walk};
 use second::brute::Brute;
 use second::generate::generate;
+use second::limits::NUMBER_BYTES;
 use second::mutate::mutate;
 use second::numbers::push_padded;
 use second::random::Random;
@@ -131,7 +132,7 @@ fn padded_tiny_models() {
         let mut padded = Vec::new();
         // Every number of a small model is one byte.
         for byte in generate(seed, "tiny").unwrap() {
-            push_padded(&mut padded, byte.into(), random.range(1, 3));
+            push_padded(&mut padded, byte.into(), random.range(1, NUMBER_BYTES));
         }
         assert!(compare(&padded, seed, 4));
     }
@@ -186,15 +187,11 @@ fn all_trails_of_tiny_models() {
 /// The region tables of both routes, for all clocks and ceilings.
 #[test]
 fn region_tables() {
-    for clocks in 1..=3 {
-        for ceiling in 1..=4 {
-            compare_tables(clocks, ceiling);
-        }
-    }
+    Regions::all().for_each(compare_tables);
 }
 
-fn compare_tables(clocks: usize, ceiling: u8) {
-    let plain = Regions::of(clocks, ceiling);
+fn compare_tables(plain: &Regions) {
+    let (clocks, ceiling) = (plain.clocks, plain.ceiling);
     let naive = NaiveRegions::of(clocks, ceiling.into());
     assert_eq!(plain.count(), naive.list.len());
     let numbers = |list: &[u8]| {

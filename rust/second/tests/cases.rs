@@ -7,7 +7,8 @@ use second::brute::Brute;
 use second::cases::rules::{broken_rules, Rule, RULES};
 use second::cases::{answers, cases};
 use second::graph::Graph;
-use second::numbers::number_at;
+use second::limits::MAX_CLOCKS;
+use second::numbers::{number_at, numbers_of};
 use second::program::{bytes_of_text, SCRATCH};
 use second::read_model;
 use std::collections::BTreeSet;
@@ -35,17 +36,6 @@ fn answered() -> Vec<(Vec<u8>, Vec<Piece>)> {
         }
     }
     plans
-}
-
-fn numbers_of(bytes: &[u8]) -> Vec<u32> {
-    let mut numbers = Vec::new();
-    let mut at = 0;
-    while at < bytes.len() {
-        let (number, next) = number_at(bytes, at).unwrap();
-        numbers.push(number);
-        at = next;
-    }
-    numbers
 }
 
 #[test]
@@ -91,14 +81,14 @@ fn every_rule_is_broken_alone() {
         let clocks = model.clocks;
         let graph = Graph::new(model);
         for (evidence, _) in pieces.iter().filter(|(_, answer)| answer == "12") {
-            let broken = broken_rules(&graph, &numbers_of(evidence)[1..]);
+            let broken = broken_rules(&graph, &numbers_of(evidence).unwrap()[1..]);
             assert!(!broken.is_empty());
             if let [rule] = broken[..] {
                 alone.insert((clocks, rule));
             }
         }
     }
-    let all = (1..=3).flat_map(|clocks| RULES.map(|rule| (clocks, rule)));
+    let all = (1..=MAX_CLOCKS).flat_map(|clocks| RULES.map(|rule| (clocks, rule)));
     assert_eq!(alone, all.collect());
 }
 
@@ -108,7 +98,10 @@ fn no_rule_is_broken_by_what_passes() {
     for (model, pieces) in answered() {
         for (evidence, _) in pieces.iter().filter(|(_, answer)| answer == "0 1") {
             let graph = Graph::new(read_model(&model).unwrap());
-            assert_eq!(broken_rules(&graph, &numbers_of(evidence)[1..]), []);
+            assert_eq!(
+                broken_rules(&graph, &numbers_of(evidence).unwrap()[1..]),
+                []
+            );
         }
     }
 }

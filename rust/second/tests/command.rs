@@ -3,8 +3,12 @@
 mod common;
 
 use common::*;
+use second::limits::{MAX_CEILING, MAX_CLOCKS};
 use std::io::Write;
 use std::process::{Command, Output, Stdio};
+
+/// There is a table for each number of clocks and each ceiling.
+const TABLES: usize = MAX_CLOCKS * MAX_CEILING as usize;
 
 fn second(arguments: &[&str], input: &[u8]) -> Output {
     let mut child = Command::new(env!("CARGO_BIN_EXE_second"))
@@ -100,7 +104,7 @@ fn generated_models() {
 #[test]
 fn region_lines() {
     let lines = String::from_utf8(answer(&["regions"], &[])).unwrap();
-    assert_eq!(lines.lines().count(), 12);
+    assert_eq!(lines.lines().count(), TABLES);
     // One clock, ceiling 1: regions 0, the interval, 1, by hand. Successors
     // 1, 2, none; corners 0; 0 1; 1; faces of the interval 0, 2; near 0 1; 0 1 2; 1 2.
     let sum = |values: &[u64]| {
@@ -139,7 +143,7 @@ fn wrong_arguments() {
 fn region_lines_are_those_stored() {
     let stored = include_bytes!("../../../crates/region_cases/stdout");
     let lines = answer(&["regions"], b"");
-    assert_eq!(lines.iter().filter(|byte| **byte == b'\n').count(), 12);
+    assert_eq!(lines.iter().filter(|byte| **byte == b'\n').count(), TABLES);
     assert!(stored.starts_with(&lines));
 }
 

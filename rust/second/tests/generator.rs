@@ -5,10 +5,9 @@ mod common;
 use common::*;
 use second::calls::states_of;
 use second::components::Components;
-use second::generate::{
-    classify, generate, shares, Class, KINDS, LARGEST_STATES, MIDDLE, SMALL, TINY,
-};
+use second::generate::{classify, generate, shares, Class, KINDS, MIDDLE, SMALL, TINY};
 use second::graph::Graph;
+use second::limits::{MAX_CLOCKS, MAX_STATES};
 use second::marking::{reached, Closure};
 use second::mutate::{self, mutate, mutate_as};
 use second::random::Random;
@@ -55,8 +54,8 @@ fn sizes_and_clocks() {
         assert!(states_of(&model(seed, "tiny")) <= TINY);
         assert!((TINY + 1..=SMALL).contains(&states_of(&model(seed, "small"))));
         assert!((SMALL + 1..=MIDDLE).contains(&states_of(&model(seed, "middle"))));
-        assert_eq!(states_of(&model(seed, "largest")), LARGEST_STATES);
-        for clocks in 1..=3 {
+        assert_eq!(states_of(&model(seed, "largest")), MAX_STATES);
+        for clocks in 1..=MAX_CLOCKS {
             assert_eq!(model(seed, &format!("clocks-{clocks}")).clocks, clocks);
         }
     }

@@ -5,6 +5,8 @@ mod common;
 
 use common::ENOUGH;
 use second::generate::{generate_sized, Class};
+use second::limits::{MAX_CEILING, MAX_CLOCKS, MAX_LOCATIONS, MAX_STATES};
+use second::program::OUTPUT;
 use second::{check_evidence, judge, write_evidence};
 use std::time::{Duration, Instant};
 
@@ -17,7 +19,7 @@ fn within(limit: Duration, sizes: &[(usize, u32, usize, usize)], classes: &[Clas
                 assert_eq!(judge(&model, ENOUGH).unwrap().states, states);
                 assert!(begin.elapsed() < limit, "judge");
                 let begin = Instant::now();
-                let mut out = vec![0; 65_536];
+                let mut out = vec![0; OUTPUT];
                 let (_, written) = write_evidence(&model, ENOUGH, &mut out).unwrap();
                 assert!(begin.elapsed() < limit, "evidence");
                 let begin = Instant::now();
@@ -43,7 +45,7 @@ fn four_thousand_states() {
 fn the_largest() {
     within(
         Duration::from_secs(2),
-        &[(3, 4, 8, 15_816)],
+        &[(MAX_CLOCKS, MAX_CEILING.into(), MAX_LOCATIONS, MAX_STATES)],
         &[Class::Safe, Class::Drift, Class::Plain],
     );
 }

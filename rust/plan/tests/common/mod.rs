@@ -2,9 +2,11 @@
 #![allow(dead_code)]
 
 use plan::Plan;
+use second::limits::MAX_STATES;
+use second::program::OUTPUT;
 
 /// Scratch for every model.
-pub const ENOUGH: [usize; 4] = [15_816; 4];
+pub const ENOUGH: [usize; 4] = [MAX_STATES; 4];
 
 /// The example plans with a text of their own.
 pub const EXAMPLES: [&str; 7] = [
@@ -33,7 +35,7 @@ pub fn example(name: &str) -> Plan {
 
 /// The evidence that the second checker writes.
 pub fn evidence(model: &[u8]) -> Vec<u8> {
-    let mut out = vec![0; 65_536];
+    let mut out = vec![0; OUTPUT];
     let (_, written) = second::write_evidence(model, ENOUGH, &mut out).expect("an accepted model");
     out.truncate(written);
     out

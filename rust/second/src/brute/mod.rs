@@ -1,5 +1,5 @@
 //! The brute-force route: everything again by naive definitions, sharing no
-//! code with the plain route. Fit for small models only.
+//! code with the plain route, only the limits. Fit for small models only.
 //!
 //! Regions are met through a sample valuation each, in eighths of a unit;
 //! corners are the whole points of a region's closure; closed walks come from

@@ -1,6 +1,8 @@
 //! Reading a model: all numbers are spelled out first, then each is held
 //! against the range that the numbers before it give.
 
+use crate::limits::{MAX_CEILING, MAX_CLOCKS, MAX_EDGES, MAX_LOCATIONS, NUMBER_BYTES};
+
 pub struct Plan {
     pub clocks: usize,
     pub ceiling: u32,
@@ -28,8 +30,8 @@ pub fn spelled(bytes: &[u8]) -> Spelled {
     let mut numbers = Vec::new();
     let mut rest = bytes;
     while !rest.is_empty() {
-        let Some(last) = rest.iter().take(3).position(|&byte| byte < 128) else {
-            let broken = if rest.len() < 3 { 1 } else { 2 };
+        let Some(last) = rest.iter().take(NUMBER_BYTES).position(|&byte| byte < 128) else {
+            let broken = if rest.len() < NUMBER_BYTES { 1 } else { 2 };
             return Spelled {
                 numbers,
                 broken: Some(broken),
@@ -61,10 +63,16 @@ impl Spelled {
 /// Least and greatest value of the number after these, and the refusal for
 /// one outside; none after the last number of a model.
 fn expected(before: &[u32]) -> Option<(u32, u32, u8)> {
-    let header = [(1, 1), (1, 3), (1, 4), (1, 8), (0, 24)];
+    let header = [
+        (1, 1),
+        (1, MAX_CLOCKS as u32),
+        (1, MAX_CEILING.into()),
+        (1, MAX_LOCATIONS as u32),
+        (0, MAX_EDGES as u32),
+    ];
     let at = before.len();
-    if at < 5 {
-        return Some((header[at].0, header[at].1, 3));
+    if let Some(&(least, greatest)) = header.get(at) {
+        return Some((least, greatest, 3));
     }
     let (clocks, ceiling, locations, edges) =
         (before[1] as usize, before[2], before[3], before[4] as usize);

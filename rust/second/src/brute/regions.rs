@@ -1,12 +1,13 @@
 //! Regions from the definition: all lists of whole parts and ranks are tried,
 //! and each lawful one is met through one valuation that lies in it.
 
+use crate::limits::{MAX_CEILING, MAX_CLOCKS};
 use std::collections::BTreeSet;
 use std::sync::OnceLock;
 
-/// Valuations count in eighths, so that three different fractions fit (2, 4
+/// Valuations count in eighths, so that a fraction for each clock fits (2, 4
 /// and 6) and there is room between them and after them.
-pub const UNIT: u32 = 8;
+pub const UNIT: u32 = 2 * (MAX_CLOCKS as u32 + 1);
 
 pub type Valuation = Vec<u32>;
 
@@ -70,9 +71,9 @@ fn whole_points(whole: &[u32], rank: &[u32], ceiling: u32) -> Corners {
 
 impl NaiveRegions {
     pub fn of(clocks: usize, ceiling: u32) -> &'static NaiveRegions {
-        static TABLES: [OnceLock<NaiveRegions>; 12] = [const { OnceLock::new() }; 12];
-        TABLES[(clocks - 1) * 4 + ceiling as usize - 1]
-            .get_or_init(|| NaiveRegions::new(clocks, ceiling))
+        static TABLES: [[OnceLock<NaiveRegions>; MAX_CEILING as usize]; MAX_CLOCKS] =
+            [const { [const { OnceLock::new() }; MAX_CEILING as usize] }; MAX_CLOCKS];
+        TABLES[clocks - 1][ceiling as usize - 1].get_or_init(|| NaiveRegions::new(clocks, ceiling))
     }
 
     fn new(clocks: usize, ceiling: u32) -> NaiveRegions {

@@ -5,8 +5,9 @@ use super::Text;
 use crate::calls::evidence_of;
 use crate::components::Components;
 use crate::graph::{Graph, FACE, JUMP, TIME};
+use crate::limits::NUMBER_BYTES;
 use crate::model::read_model;
-use crate::numbers::{number_at, push_padded};
+use crate::numbers::{numbers_of, push_padded};
 
 /// One clock, ceiling 1, one location: three states in a row.
 const LINE: [u8; 8] = [1, 1, 1, 1, 0, 0, 0, 0];
@@ -79,11 +80,8 @@ fn graph_of(model: &[u8]) -> Graph {
 /// Each number with as many bytes as it can have.
 fn padded(bytes: &[u8]) -> Vec<u8> {
     let mut longest = Vec::new();
-    let mut at = 0;
-    while at < bytes.len() {
-        let (number, next) = number_at(bytes, at).expect("evidence spells numbers");
-        push_padded(&mut longest, number, 3);
-        at = next;
+    for number in numbers_of(bytes).expect("evidence spells numbers") {
+        push_padded(&mut longest, number, NUMBER_BYTES);
     }
     longest
 }

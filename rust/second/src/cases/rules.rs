@@ -3,6 +3,7 @@
 use crate::components::Components;
 use crate::graph::{Graph, FACE, JUMP, TIME};
 use crate::marking::marked_set;
+use crate::sheet::greatest_number;
 
 #[derive(Clone, Copy, Debug, PartialEq, Eq, PartialOrd, Ord)]
 pub enum Rule {
@@ -167,7 +168,7 @@ fn other_heights(graph: &Graph, components: &Components) -> Vec<Numbers> {
         numbers[state] = number;
         numbers
     };
-    let most = 2 * graph.states() as u32 - 1;
+    let most = greatest_number(graph.states());
     let allowed = (0..graph.states()).filter(|&state| graph.allowed[state]);
     allowed
         .flat_map(|state| {

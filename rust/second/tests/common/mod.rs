@@ -1,8 +1,11 @@
 //! What several test programs use.
 #![allow(dead_code)]
 
+use second::limits::MAX_STATES;
+use second::program::OUTPUT;
+
 /// Enough scratch for every model.
-pub const ENOUGH: [usize; 4] = [15_816; 4];
+pub const ENOUGH: [usize; 4] = [MAX_STATES; 4];
 
 /// The loop plan of "Plans on the bench".
 pub const LOOP: [u8; 46] = [
@@ -27,7 +30,7 @@ pub const ROW: [u8; 8] = [1, 1, 1, 1, 0, 0, 0, 0];
 pub const TWO: [u8; 15] = [1, 1, 1, 2, 1, 0, 0, 0, 0, 0, 0, 1, 0, 1, 1];
 
 pub fn evidence(model: &[u8]) -> Vec<u8> {
-    let mut out = vec![0; 65_536];
+    let mut out = vec![0; OUTPUT];
     let (_, written) = second::write_evidence(model, ENOUGH, &mut out).expect("an accepted model");
     out.truncate(written);
     out
