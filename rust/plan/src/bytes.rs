@@ -45,6 +45,7 @@ pub fn decode(bytes: &[u8]) -> Result<Plan, Flaw> {
     let mut stays = Vec::new();
     let model = Model::from_fields(&mut |field, range| {
         let number = number_within(&mut numbers, field, range)?;
+        // A model has the limit alone, a plan also whether it was given.
         if let Field::Stay { .. } = field {
             stays.push(number.checked_sub(1).map(|limit| limit as u8));
         }

@@ -21,6 +21,12 @@ fn every_refusal_is_explained() {
     assert_eq!((refusal_words(0), refusal_words(15)), (None, None));
 }
 
+#[test]
+fn the_limits_are_named() {
+    let limits = "clocks (1 to 3), ceiling (1 to 4), locations (1 to 8), edges (0 to 24)";
+    assert!(refusal_words(3).unwrap().contains(limits));
+}
+
 fn words(bytes: &[u8]) -> String {
     let flaw = decode(bytes).expect_err("a refused model");
     format!("{}: {}", flaw.refusal, flaw.words)

@@ -66,7 +66,7 @@ impl Field {
 
 /// Gives the next number of a model, which stands for this and must be within
 /// this range; or ends the reading.
-type Next<'a, E> = &'a mut dyn FnMut(Field, RangeInclusive<u32>) -> Result<u32, E>;
+pub type Next<'a, E> = &'a mut dyn FnMut(Field, RangeInclusive<u32>) -> Result<u32, E>;
 
 /// Reads a whole model; refusals 1 to 7 in the order of document 01.
 pub fn read_model(bytes: &[u8]) -> Result<Model, Refusal> {
