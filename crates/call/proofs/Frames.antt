@@ -2,18 +2,9 @@
 use Prim.Native.Nat.{ℕ}
 use mathlib.Core.Path.{_≡_, refl, ap, _∙_}
 use mathlib.Core.Bool.{Bool, true, false, _&&_}
-use mathlib.Core.List.{List, _++_, append-nil}
-use lib.ListN.{length, drop, replicate}
-use lib.Seq.{drop-length}
-use Rattle.call.specs.Scratch.{Scratch, Cleared, Zeroed}
-
--- all places filled
-pub fill-all : (a₀ a : List ℕ) (i : ℕ) → i ≡ length a₀ → a ≡ replicate i 0 ++ drop i a₀ → a ≡ replicate (length a₀) 0
-fill-all a₀ a i e h =
-    h
-    ∙ ap (λ (k : ℕ). replicate k 0 ++ drop k a₀) e
-    ∙ ap (λ (t : List ℕ). replicate (length a₀) 0 ++ t) (drop-length a₀)
-    ∙ append-nil (replicate (length a₀) 0)
+use mathlib.Core.List.{List}
+use lib.ListN.{replicate}
+use Rattle.call.specs.Scratch.{Cleared, Zeroed}
 
 pub and-true : (b : Bool) → (b && true) ≡ b
 and-true true = refl

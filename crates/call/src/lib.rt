@@ -2,11 +2,12 @@
 
 ghost use mathlib.Core.Path.{_≡_};
 ghost use mathlib.Core.List.{[], _∷_};
-ghost use lib.ListN.{length, replicate};
+ghost use lib.ListN.{length};
 ghost use Rattle.call.specs.Call.{enough, admission};
 ghost use Rattle.call.specs.Scratch.{Cleared};
 use limits::Word;
 use limits::refusal::SCRATCH_SHORT;
+use limits::zero::clear;
 use model::Model;
 
 // A plan that a call goes on with, and its number of states; or the refusal, 1 to 8.
@@ -17,15 +18,15 @@ pub struct Admission {
 }
 
 // Each of four slices is long enough.
-fn is_enough(s: usize, a: usize, b: usize, c: usize, d: usize) -> bool
-    ensures { λ r. ⌜ r ≡ enough s (a ∷ b ∷ c ∷ d ∷ []) ⌝ }
+fn is_enough(s: usize, s1: usize, s2: usize, s3: usize, s4: usize) -> bool
+    ensures { λ r. ⌜ r ≡ enough s (s1 ∷ s2 ∷ s3 ∷ s4 ∷ []) ⌝ }
 {
-    (s <= a) & ((s <= b) & ((s <= c) & (s <= d)))
+    (s <= s1) & ((s <= s2) & ((s <= s3) & (s <= s4)))
 }
 
 // The plan that the bytes spell, if it is accepted and four slices of these lengths are long enough for it.
-pub fn admit(bytes: &[u8], a: usize, b: usize, c: usize, d: usize) -> Admission
-    ensures { λ r. ⌜ r ≡ admission (now (bytes .entry)) (a ∷ b ∷ c ∷ d ∷ []) ⌝ }
+pub fn admit(bytes: &[u8], s1: usize, s2: usize, s3: usize, s4: usize) -> Admission
+    ensures { λ r. ⌜ r ≡ admission (now (bytes .entry)) (s1 ∷ s2 ∷ s3 ∷ s4 ∷ []) ⌝ }
 {
     let read = model::read_model(bytes);
     let refusal = read.refusal;
@@ -38,7 +39,7 @@ pub fn admit(bytes: &[u8], a: usize, b: usize, c: usize, d: usize) -> Admission
         };
     }
     let s = graph::state_count(m);
-    if is_enough(s, a, b, c, d) {
+    if is_enough(s, s1, s2, s3, s4) {
         return Admission {
             refusal: 0,
             states: s,
@@ -52,25 +53,15 @@ pub fn admit(bytes: &[u8], a: usize, b: usize, c: usize, d: usize) -> Admission
     }
 }
 
-fn clear(a: &mut [Word])
-    ensures { λ _. ⌜ now (a .exit) ≡ replicate (length (now (a .entry))) 0 ⌝ }
-{
-    let mut i = 0;
-    while i < a.len() {
-        a[i] = 0;
-        i += 1;
-    }
-}
-
 // All four slices at zero.
-pub fn clear_all(a: &mut [Word], b: &mut [Word], c: &mut [Word], d: &mut [Word])
+pub fn clear_all(s1: &mut [Word], s2: &mut [Word], s3: &mut [Word], s4: &mut [Word])
     ensures { λ _. ⌜
-        Cleared (length (now (a .entry))) (length (now (b .entry))) (length (now (c .entry))) (length (now (d .entry)))
-        (now (a .exit)) (now (b .exit)) (now (c .exit)) (now (d .exit))
+        Cleared (length (now (s1 .entry))) (length (now (s2 .entry))) (length (now (s3 .entry))) (length (now (s4 .entry)))
+        (now (s1 .exit)) (now (s2 .exit)) (now (s3 .exit)) (now (s4 .exit))
         ⌝ }
 {
-    clear(a);
-    clear(b);
-    clear(c);
-    clear(d);
+    clear(s1);
+    clear(s2);
+    clear(s3);
+    clear(s4);
 }

@@ -7,10 +7,9 @@ use Prim.Native.Nat.{ℕ, _+_, _-_, _≤_, _<_}
 use native.Mathlib.Omega.{arith}
 use native.Mathlib.Decide.{decLt}
 use lib.ListN.{length, getD}
-use Rattle.theory.specs.Adjacency.{Adjacent}
-use Rattle.theory.specs.Levels.{far}
+use Rattle.theory.specs.Adjacency.{Adjacent, Rows}
+use Rattle.theory.specs.Levels.{distanceTo}
 use Rattle.theory.proofs.Levels.{far-inside, goal-far, far-goal, mark-in, upto-at}
-use Rattle.search.specs.Rows.{Rows}
 use Rattle.search.specs.Queue.{TakesAll, LeadsFrom}
 use Rattle.search.specs.Rounds.{Agrees, Searched}
 use Rattle.search.proofs.Queue.{fits-le}
@@ -43,9 +42,9 @@ module _ {first targets : List ℕ} {q x lo hi : ℕ} {level queue : List ℕ} (
         let (e, h) = upto-at S r (G .inside) q (G .begins) x (λ p. getD level p 0) (I .some) (I .upto r G) p (I .fits .below i l)
         (I .now i (B .after) l) in
         let u = goal-far S r (G .inside) q (G .begins) (λ z. r z q) p h (G .to p q h (B .is l)) in
-        (by p e h u (decLt (back S r q) (far S r q p)), omega arith)
+        (by p e h u (decLt (back S r q) (distanceTo S r q p)), omega arith)
       where
-        by : (p : ℕ) → far S r q p + 1 ≡ x → far S r q p < S → back S r q ≤ far S r q p → Dec (back S r q < far S r q p) → back S r q + 1 ≡ x
+        by : (p : ℕ) → distanceTo S r q p + 1 ≡ x → distanceTo S r q p < S → back S r q ≤ distanceTo S r q p → Dec (back S r q < distanceTo S r q p) → back S r q + 1 ≡ x
         by p e h u (no k) = omega arith
         by p e h u (yes k) =
             let (s, t, d) = far-goal S r (G .inside) q (G .begins) (λ z. r z q) (omega arith) in
@@ -63,7 +62,7 @@ module _ {first targets : List ℕ} {q x lo hi : ℕ} {level queue : List ℕ} (
         by (no h) = omega arith
         by (yes h) =
             let (s, t, d) = far-goal S r (G .inside) q (G .begins) (λ z. r z q) h in
-            let k : far S r q s < S = omega arith in
+            let k : distanceTo S r q s < S = omega arith in
             let b = far-inside S r (G .inside) q (G .begins) s k in
             let v = searched-marks I o r G s b ∙ mark-in S r q s k in
             let (j, m, n, w) = back-after s b t (omega arith) in

@@ -11,7 +11,7 @@ use lib.Seq.{take-suc-set}
 use lib.Dec.{eqb}
 use borrow.Author.Tests.{eqb-true}
 use Rattle.theory.specs.Walk.{Walk, Inside, dist⁺, greedy}
-use Rattle.theory.specs.System.{System, Laws, OnClosedWalk, onClosedWalk}
+use Rattle.theory.specs.System.{System, Laws, OnClosedWalkIn, onClosedWalk}
 use Rattle.theory.specs.ClosedWalk.{closedWalkSteps, closedWalk}
 use Rattle.theory.specs.Adjacency.{Adjacent, Holds}
 use Rattle.theory.proofs.Walk.{exact-walk, dist-exact, dist⁺-exact}
@@ -83,7 +83,7 @@ module _ (Y : System) (L : Laws Y) (q : ℕ) where
       let w = exact-walk (Y .size) (Y .flow) (λ x. eqb x q) (flow-inside Y L) k q e in
       is-closed-walk Y L q (some (w .path) (rw (eqb-true (w .end) q (w .ends)) at (w .walk)) (w .size))
     where
-      some : (l : List ℕ) → Walk (Y .flow) q q l → length l ≡ dist⁺ (Y .size) (Y .flow) (λ x. eqb x q) q → OnClosedWalk Y q
+      some : (l : List ℕ) → Walk (Y .flow) q q l → length l ≡ dist⁺ (Y .size) (Y .flow) (λ x. eqb x q) q → OnClosedWalkIn Y q
       some [] w n = absurd (omega (arith, closed-walk-some Y L q))
       some (x ∷ l) w n = (x, l, w)
 

@@ -14,7 +14,7 @@ use Rattle.theory.proofs.Guide.{any-same, least-same}
 use Rattle.theory.proofs.Walk.{dist⁺-exact}
 use Rattle.theory.proofs.Levels.{far-inside}
 use Rattle.search.specs.Rounds.{Agrees}
-use Rattle.search.proofs.Rows.{holds-rows, rows-below}
+use Rattle.theory.proofs.Rows.{holds-rows, rows-below}
 use Rattle.closed_walk.specs.Closes.{Closes}
 
 unfoldable pub cut : ℕ → (ℕ → ℕ → Bool) → ℕ → ℕ → Bool

@@ -6,8 +6,7 @@ use mathlib.Core.List.{List}
 use Prim.Native.Nat.{ℕ, _-_, _≤_, _<_}
 use lib.ListN.{length, getD}
 use Rattle.theory.specs.Walk.{dist}
-use Rattle.theory.specs.Adjacency.{Adjacent}
-use Rattle.search.specs.Rows.{Rows}
+use Rattle.theory.specs.Adjacency.{Adjacent, Rows}
 use Rattle.search.specs.Queue.{ByLevel}
 use Rattle.search.specs.Rounds.{Agrees}
 use Rattle.search.specs.Flags.{Aims}

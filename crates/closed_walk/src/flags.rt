@@ -3,8 +3,7 @@
 ghost use Prim.Native.Nat.{ℕ, _≤_, _<_};
 ghost use lib.ListN.{length, getD};
 ghost use Rattle.limits.specs.Limits.{maxStates};
-ghost use Rattle.theory.specs.Adjacency.{Adjacent};
-ghost use Rattle.search.specs.Rows.{Rows};
+ghost use Rattle.theory.specs.Adjacency.{Adjacent, Rows};
 ghost use Rattle.search.specs.Queue.{ByLevel};
 ghost use Rattle.search.specs.Flags.{Ahead, Tried, FlagsOf};
 use limits::LEVEL_FLAG;

@@ -4,12 +4,12 @@ ghost use mathlib.Core.Path.{_≡_};
 ghost use Prim.Native.Nat.{_≤_, _<_};
 ghost use lib.ListN.{length};
 ghost use Rattle.limits.specs.Limits.{maxStates};
-ghost use Rattle.theory.specs.Adjacency.{Adjacent};
-ghost use Rattle.search.specs.Rows.{Rows};
-ghost use Rattle.search.specs.Queue.{Fits, TakesAll, LeadsFrom};
+ghost use Rattle.theory.specs.Adjacency.{Adjacent, Rows};
+ghost use Rattle.search.specs.Queue.{Queued, TakesAll, LeadsFrom};
 ghost use Rattle.closed_walk.specs.Rounds.{Places, FirstBack, Outcome};
 use limits::Word;
 use limits::cast::from_word;
+use limits::zero::clear;
 use search::leads_to;
 use search::take_row;
 
@@ -24,7 +24,7 @@ fn round(
     hi: usize,
 ) -> usize
     requires { ⌜
-        (x ≤ maxStates) × (lo ≤ hi) × Rows (now first) (now targets) (length (now level)) × Fits (now level) (now queue) hi
+        (x ≤ maxStates) × (lo ≤ hi) × Rows (now first) (now targets) (length (now level)) × Queued (now level) (now queue) hi
         ⌝ }
     ensures { λ r. ⌜
         TakesAll x (LeadsFrom (Adjacent (now (first .entry)) (now (targets .entry))) (now (queue .entry)) lo hi)
@@ -79,7 +79,7 @@ pub fn levels(
         Outcome (now (first .entry)) (now (targets .entry)) q (now (level .exit)) (now (queue .exit)) r
         ⌝ }
 {
-    search::clear(level);
+    clear(level);
     level[q] = 1;
     queue[0] = q as Word;
     let mut x: Word = 1;

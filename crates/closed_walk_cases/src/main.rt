@@ -1,7 +1,7 @@
 // Closed walks in graphs of six nodes, worked out by hand. A line each: the fewest steps, then the nodes that the walk comes to; 0 where there is none.
 
 ghost use Prim.Native.Nat.{_<_};
-ghost use Rattle.search.specs.Rows.{Rows};
+ghost use Rattle.theory.specs.Adjacency.{Rows};
 use libc::STDOUT_FILENO;
 use limits::Word;
 

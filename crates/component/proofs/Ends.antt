@@ -12,7 +12,7 @@ use Rattle.theory.proofs.Below.{bit-le, bool-ext}
 use Rattle.theory.proofs.System.{closed-walk-law}
 use Rattle.theory.proofs.Height.{height-unique, height-law}
 use Rattle.theory.proofs.SameFlow.{closed-as, height-as}
-use Rattle.component.specs.Marks.{Shape, Marks}
+use Rattle.component.specs.Marks.{GraphLists, Marks}
 use Rattle.component.specs.Graph.{graphOf}
 use Rattle.component.specs.Stack.{at}
 use Rattle.component.specs.Scan.{heightIn}
@@ -22,7 +22,7 @@ use Rattle.component.proofs.Pass.{set-new, empty, pass-push}
 use Rattle.component.proofs.Stack as laws
 
 -- with all nodes new
-pub pass-first : {first targets mark stack path start : List ℕ} {n : ℕ} → Shape first targets n
+pub pass-first : {first targets mark stack path start : List ℕ} {n : ℕ} → GraphLists first targets n
     → length mark ≡ n → length stack ≡ n → length path ≡ n → length start ≡ n
     → ((s : ℕ) → s < n → at mark s ≡ 0) → Pass first targets n mark stack path start 0 0 0 0
 pass-first {mark} {n} g l k j h z =

@@ -2,7 +2,7 @@
 use mathlib.Core.Path.{_≡_}
 use mathlib.Core.Bool.{true}
 use mathlib.Core.List.{List}
-use Prim.Native.Nat.{ℕ, zero, suc, _+_, _-_, _≤_, _<_}
+use Prim.Native.Nat.{ℕ, suc, _≤_, _<_}
 use native.Mathlib.Omega.{arith}
 use lib.ListN.{length, getD}
 use Rattle.theory.specs.System.{System, Laws}
@@ -10,8 +10,9 @@ use Rattle.theory.specs.Adjacency.{Adjacent, Holds}
 use Rattle.theory.proofs.Below.{and↔, leb↔, ltb↔, eqb↔, any-intro, any-elim}
 use Rattle.theory.proofs.System.{flow-inside}
 use Rattle.theory.proofs.SameFlow.{FlowIn}
+use Rattle.theory.proofs.Rows.{at-most-last}
 use Rattle.limits.specs.Limits.{maxSteps}
-use Rattle.component.specs.Marks.{Shape}
+use Rattle.component.specs.Marks.{GraphLists}
 use Rattle.component.specs.Graph.{adjacent, graphOf}
 
 module _ (first targets : List ℕ) where
@@ -37,17 +38,16 @@ module _ (first targets : List ℕ) where
     unfolding graphOf
     is-flow p q l A = and↔ (ltb↔ p n) (λ x. x, λ x. x) .1 (l, is-adjacent p q A)
 
-    module _ (H : Shape first targets n) where
-      ascends-to : (k p : ℕ) → p + k ≡ n → getD first p 0 ≤ getD first n 0
-      ascends-to zero p e = let z : p ≡ n = omega arith in rw z (omega arith)
-      ascends-to (suc k) p e = omega (arith, H .ascends p (omega arith), ascends-to k (suc p) (omega arith))
+    module _ (H : GraphLists first targets n) where
+      row-ends : (p : ℕ) → p ≤ n → getD first p 0 ≤ getD first n 0
+      row-ends = at-most-last (λ p. getD first p 0) n (H .ascends)
 
       pub first-few : (p : ℕ) → p ≤ n → getD first p 0 ≤ maxSteps
-      first-few p l = omega (arith, ascends-to (n - p) p (omega arith), H .few)
+      first-few p l = omega (arith, row-ends p l, H .few)
 
       -- the places of a node's successors are places of targets
       pub place-below : (p i : ℕ) → p < n → i < getD first (suc p) 0 → i < getD first n 0
-      place-below p i l k = omega (arith, ascends-to (n - suc p) (suc p) (omega arith))
+      place-below p i l k = omega (arith, row-ends (suc p) (omega arith))
 
       pub place-in : (p i : ℕ) → p < n → i < getD first (suc p) 0 → i < length targets
       place-in p i l k = omega (arith, place-below p i l k, H .ends)

@@ -13,7 +13,7 @@ use lib.Seq.{getD-set-same, getD-set-other}
 use Rattle.theory.specs.System.{Reaches}
 use Rattle.theory.proofs.Component.{reach-join, reach-one}
 use Rattle.limits.specs.Limits.{maxSteps}
-use Rattle.component.specs.Marks.{Shape}
+use Rattle.component.specs.Marks.{GraphLists}
 use Rattle.component.specs.Graph.{graphOf}
 use Rattle.component.specs.Stack.{at, news, Open}
 use Rattle.component.specs.Scan.{Cursor, NewPlace}
@@ -52,7 +52,7 @@ set-new mark t x n z s k e = by (ℕ-discrete s t)
 
 -- ---- cursors
 
-module _ {first targets : List ℕ} {n v : ℕ} (H : Shape first targets n) (b : v < n) where
+module _ {first targets : List ℕ} {n v : ℕ} (H : GraphLists first targets n) (b : v < n) where
   -- a node with no successor passed
   cursor-first : (m : ℕ → ℕ) → Cursor first targets m v (at first v)
   cursor-first m = record { from = omega arith; to = H .ascends v b; old = λ j k l. absurd (omega arith) }

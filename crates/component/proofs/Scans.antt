@@ -12,10 +12,10 @@ use borrow.Author.Count.{below-more}
 use lib.ListN.{length, set}
 use lib.Seq.{getD-set-same, getD-set-other}
 use Rattle.theory.specs.System.{System}
-use Rattle.component.specs.Marks.{Shape}
+use Rattle.component.specs.Marks.{GraphLists}
 use Rattle.component.specs.Graph.{graphOf}
 use Rattle.component.specs.Stack.{at}
-use Rattle.component.specs.Scan.{Cursor, NewPlace, LowAt, Low, Merged, heightIn, MostAt, MostFrom, Most, Filled}
+use Rattle.component.specs.Scan.{Cursor, NewPlace, LowAt, Low, Merged, heightIn, MostAt, MostFrom, Most, Painted}
 use Rattle.component.proofs.Graph.{flow-is, is-flow, place-in, node-in, flow-below}
 
 -- ---- one successor: the lower place
@@ -48,7 +48,7 @@ pub record Passed (P : ℕ → Type 0) (first targets : List ℕ) (v end i : ℕ
   pub to : i ≤ end
   pub each : (j : ℕ) → at first v ≤ j → j < i → P (at targets j)
 
-passed-first : {P : ℕ → Type 0} {first targets : List ℕ} {n v end i : ℕ} → Shape first targets n → v < n → end ≡ at first (v + 1) → i ≡ at first v
+passed-first : {P : ℕ → Type 0} {first targets : List ℕ} {n v end i : ℕ} → GraphLists first targets n → v < n → end ≡ at first (v + 1) → i ≡ at first v
     → Passed P first targets v end i
 passed-first {first} {v} {end} H l e f =
     let g : end ≡ at first (suc v) = e ∙ ap (at first) (add-one v) in
@@ -65,10 +65,10 @@ module _ {P : ℕ → Type 0} {first targets : List ℕ} {v end i : ℕ} (I : Pa
   passed-step : (n : ℕ) → v < n → graphOf first targets n .flow v (at targets i) ≡ true
   passed-step n b = is-flow first targets n v (at targets i) b (record { place = i; after = I .from; before = omega (arith, I .ends); is = refl })
 
-  pub passed-place : {n : ℕ} → Shape first targets n → v < n → i < length targets
+  pub passed-place : {n : ℕ} → GraphLists first targets n → v < n → i < length targets
   passed-place {n} H b = place-in first targets n H v i b (omega (arith, I .ends))
 
-  pub passed-node : {n : ℕ} → Shape first targets n → v < n → at targets i < n
+  pub passed-node : {n : ℕ} → GraphLists first targets n → v < n → at targets i < n
   passed-node {n} H b = node-in first targets n H v i b (omega (arith, I .ends))
 
 passed-all : {P : ℕ → Type 0} {first targets : List ℕ} {v end i : ℕ} → Passed P first targets v end i → end ≤ i
@@ -103,7 +103,7 @@ pub record LowTo (first targets mark : List ℕ) (n v top end i low : ℕ) : Typ
   pub passed : Passed (λ t. (p : ℕ) → at mark t ≡ suc p → low ≤ p) first targets v end i
   pub some : low < top → (t : ℕ) × (graphOf first targets n .flow v t ≡ true) × (at mark t ≡ suc low)
 
-pub low-first : {first targets : List ℕ} {n v end i : ℕ} → Shape first targets n → v < n → (mark : List ℕ) (top : ℕ)
+pub low-first : {first targets : List ℕ} {n v end i : ℕ} → GraphLists first targets n → v < n → (mark : List ℕ) (top : ℕ)
     → end ≡ at first (v + 1) → i ≡ at first v → LowTo first targets mark n v top end i top
 low-first H b mark top e f = record { passed = passed-first H b e f; some = λ l. absurd (omega arith) }
 
@@ -129,7 +129,7 @@ pub record MostTo (first targets mark : List ℕ) (n v h end i r : ℕ) : Type 0
   pub more : h ≤ r
   pub found : (r ≡ h) ⊎ ((t : ℕ) × (graphOf first targets n .flow v t ≡ true) × (n < at mark t) × (r ≡ suc (heightIn n (at mark t))))
 
-pub most-first : {first targets : List ℕ} {n v end i : ℕ} → Shape first targets n → v < n → (mark : List ℕ) (h : ℕ)
+pub most-first : {first targets : List ℕ} {n v end i : ℕ} → GraphLists first targets n → v < n → (mark : List ℕ) (h : ℕ)
     → end ≡ at first (v + 1) → i ≡ at first v → MostTo first targets mark n v h end i h
 most-first H b mark h e f = record { passed = passed-first H b e f; more = omega arith; found = inl refl }
 
@@ -201,11 +201,11 @@ merged-all I l = record { some = I .some; fewer = I .fewer; under = l; over = I 
 
 -- ---- filling
 
-pub filled-first : {m st : ℕ → ℕ} {a x : ℕ} → Filled m m st a a x
+pub filled-first : {m st : ℕ → ℕ} {a x : ℕ} → Painted m m st a a x
 filled-first = record { put = λ p k l. absurd (omega arith); rest = λ s f. refl }
 
-pub filled-more : (mark : List ℕ) {m₀ st : ℕ → ℕ} {a p x : ℕ} → a ≤ p → st p < length mark → Filled m₀ (at mark) st a p x
-    → Filled m₀ (at (set mark (st p) x)) st a (p + 1) x
+pub filled-more : (mark : List ℕ) {m₀ st : ℕ → ℕ} {a p x : ℕ} → a ≤ p → st p < length mark → Painted m₀ (at mark) st a p x
+    → Painted m₀ (at (set mark (st p) x)) st a (p + 1) x
 filled-more mark {m₀} {st} {a} {p} {x} c l F =
     record {
       put = λ q k n. put′ q k n (ℕ-discrete (st q) (st p)) (ℕ-discrete q p);
@@ -217,17 +217,11 @@ filled-more mark {m₀} {st} {a} {p} {x} c l F =
     put′ q k n (no e) (yes d) = absurd (e (ap st d))
     put′ q k n (no e) (no d) = getD-set-other mark (st p) (st q) x 0 e ∙ F .put q k (omega arith)
 
-pub filled-all : {m m′ st : ℕ → ℕ} {a p top x : ℕ} → p ≤ top → top ≤ p → Filled m m′ st a p x → Filled m m′ st a top x
+pub filled-all : {m m′ st : ℕ → ℕ} {a p top x : ℕ} → p ≤ top → top ≤ p → Painted m m′ st a p x → Painted m m′ st a top x
 filled-all {p} {top} l k F = let e : p ≡ top = omega arith in rw e at F
 
 pub height-all : {Y : System} {n : ℕ} {m st : ℕ → ℕ} {a p top h : ℕ} → p ≤ top → top ≤ p → Most Y n m st a p h → Most Y n m st a top h
 height-all {p} {top} l k M = let e : p ≡ top = omega arith in rw e at M
-
--- ---- clearing
-
-pub cleared-more : (mark : List ℕ) {s : ℕ} → s < length mark → ((j : ℕ) → j < s → at mark j ≡ 0) → (j : ℕ) → j < s + 1 → at (set mark s 0) j ≡ 0
-cleared-more mark {s} l f =
-    below-more (λ j. at (set mark s 0) j ≡ 0) s (λ j k. getD-set-other mark s j 0 0 (λ e. omega arith) ∙ f j k) (getD-set-same mark s 0 0 l)
 
 -- ---- settling
 
@@ -252,10 +246,10 @@ settled-more mark {m} {n} {s} l k I =
     }
 
 -- where the heights of finished nodes are below n, the largest is at most n
-pub most-le : {first targets : List ℕ} {m st : ℕ → ℕ} {n a top h : ℕ} → Shape first targets n → ((t : ℕ) → t < n → n < m t → heightIn n (m t) < n)
+pub most-le : {first targets : List ℕ} {m st : ℕ → ℕ} {n a top h : ℕ} → GraphLists first targets n → ((t : ℕ) → t < n → n < m t → heightIn n (m t) < n)
     → Most (graphOf first targets n) n m st a top h → h ≤ n
 most-le {first} {targets} {st} {n} H f M =
     ⊎-elim (λ z. omega arith) (λ (p, t, k, l, e, d, z). omega (arith, f t (flow-below first targets n H (st p) t e) d)) (M .found)
 
-pub filled-as : {m m′ st : ℕ → ℕ} {a top x y : ℕ} → x ≡ y → Filled m m′ st a top x → Filled m m′ st a top y
+pub filled-as : {m m′ st : ℕ → ℕ} {a top x y : ℕ} → x ≡ y → Painted m m′ st a top x → Painted m m′ st a top y
 filled-as e F = rw e at F

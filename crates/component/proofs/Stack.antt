@@ -10,12 +10,12 @@ use lib.Dec.{ltb, eqb}
 use borrow.Author.Tests.{eqb-true, eq-eqb}
 use Rattle.theory.specs.Below.{bit}
 use Rattle.theory.specs.Walk.{stop}
-use Rattle.theory.specs.System.{System, Reaches, OnClosedWalk}
+use Rattle.theory.specs.System.{System, Reaches, OnClosedWalkIn}
 use Rattle.theory.specs.Height.{IsHeight}
 use Rattle.theory.proofs.Below.{count-le, count-mono, count-strict, false-unless-true, bit-le, ltb↔}
 use Rattle.theory.proofs.Component.{reach-join, reach-one, Component, closed-in, in-closed, closed-all, component-height}
 use Rattle.component.specs.Stack.{news, Above, Open, Explored, Finished, Stack}
-use Rattle.component.specs.Scan.{Low, Merged, heightIn, Most, Filled}
+use Rattle.component.specs.Scan.{Low, Merged, heightIn, Most, Painted}
 
 pub lt-or-ge : (a b : ℕ) → (a < b) ⊎ (b ≤ a)
 lt-or-ge a b = go (decLt a b)
@@ -382,20 +382,20 @@ module _ {Y : System} {S : ℕ} {m st pa sg : ℕ → ℕ} {top segs depth : ℕ
         grown t k d z = let f = I .done t k d in omega (arith, f .is, bit-le (f .c), f .low)
 
     module _ (w h : ℕ) {m′ : ℕ → ℕ} (L : Low Y m (st cur) top w)
-        (M : Most Y S m st cur top h) (F : Filled m m′ st cur top (suc S + (2 * h + bit (ltb w top)))) where
+        (M : Most Y S m st cur top h) (F : Painted m m′ st cur top (suc S + (2 * h + bit (ltb w top)))) where
       cur-in : In (st cur)
       unfolding In
       cur-in = (cur, omega arith, cur-on, refl)
 
       -- the current node lies on a closed walk just if a successor of it is on the stack
-      cur-closed : ltb w top ≡ true → OnClosedWalk Y (st cur)
+      cur-closed : ltb w top ≡ true → OnClosedWalkIn Y (st cur)
       unfolding In Done
       cur-closed b =
           let (t, g, q) = L .some (ltb↔ w top .0 b) in
           ⊎-elim (λ n. closed-in component (st cur) t cur-in n g)
           (λ d. absurd (omega (arith, I .room, ltb↔ w top .0 b))) (seg-step cur t (omega arith) cur-on g)
 
-      closed-cur : OnClosedWalk Y (st cur) → ltb w top ≡ true
+      closed-cur : OnClosedWalkIn Y (st cur) → ltb w top ≡ true
       unfolding In Done
       closed-cur o =
           ⊎-elim (ltb↔ w top .1)
@@ -403,7 +403,7 @@ module _ {Y : System} {S : ℕ} {m st pa sg : ℕ → ℕ} {top segs depth : ℕ
           (lt-or-ge w top)
 
       -- and then all of the segment does
-      seg-closed : (s : ℕ) → In s → (ltb w top ≡ true) ↔ OnClosedWalk Y s
+      seg-closed : (s : ℕ) → In s → (ltb w top ≡ true) ↔ OnClosedWalkIn Y s
       seg-closed s n = (λ b. closed-all component (st cur) s cur-in n (cur-closed b), λ o. closed-cur (closed-all component s (st cur) n cur-in o))
 
       seg-height : (s : ℕ) → In s → IsHeight Y s h

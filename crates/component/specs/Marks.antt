@@ -10,7 +10,7 @@ use Rattle.theory.specs.Adjacency.{Holds}
 use Rattle.limits.specs.Limits.{maxStates, maxSteps}
 
 -- the lists of some graph on the nodes below n
-pub record Shape (first targets : List ℕ) (n : ℕ) : Type 0 where
+pub record GraphLists (first targets : List ℕ) (n : ℕ) : Type 0 where
   pub small : n ≤ maxStates
   pub few : getD first n 0 ≤ maxSteps
   pub long : length first ≡ suc n

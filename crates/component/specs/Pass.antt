@@ -6,10 +6,10 @@ use lib.ListN.{length}
 use lib.Dec.{ltb}
 use Rattle.theory.specs.Below.{bit}
 use Rattle.theory.specs.System.{System}
-use Rattle.component.specs.Marks.{Shape}
+use Rattle.component.specs.Marks.{GraphLists}
 use Rattle.component.specs.Graph.{graphOf}
 use Rattle.component.specs.Stack.{at, news, Stack}
-use Rattle.component.specs.Scan.{Cursor, Most, Filled}
+use Rattle.component.specs.Scan.{Cursor, Most, Painted}
 
 -- the node after the i-th of the path, by the place among the i-th's successors that was passed last
 pub record Entered (targets mark path : List ℕ) (i : ℕ) : Type 0 where
@@ -20,7 +20,7 @@ pub record Entered (targets mark path : List ℕ) (i : ℕ) : Type 0 where
 
 -- pa: the places of the path's nodes on the stack; the list `path` holds for each of its nodes the place up to which its successors were passed
 pub record Pass (first targets : List ℕ) (n : ℕ) (mark stack path start : List ℕ) (top segs depth cur : ℕ) : Type 0 where
-  pub shape : Shape first targets n
+  pub shape : GraphLists first targets n
   pub marks : length mark ≡ n
   pub stacks : length stack ≡ n
   pub paths : length path ≡ n
@@ -44,4 +44,4 @@ pub record Moved (n : ℕ) (mark mark′ : List ℕ) (depth depth′ : ℕ) : Ty
 pub record Popped (Y : System) (n : ℕ) (m m′ st : ℕ → ℕ) (a top w : ℕ) : Type 0 where
   pub h : ℕ
   pub most : Most Y n m st a top h
-  pub filled : Filled m m′ st a top (suc n + (2 * h + bit (ltb w top)))
+  pub filled : Painted m m′ st a top (suc n + (2 * h + bit (ltb w top)))

@@ -59,6 +59,6 @@ pub record Most (Y : System) (n : ℕ) (m st : ℕ → ℕ) (a top h : ℕ) : Ty
       ⊎ ((p : ℕ) × (t : ℕ) × (a ≤ p) × (p < top) × (Y .flow (st p) t ≡ true) × (n < m t) × (h ≡ suc (heightIn n (m t))))
 
 -- m′ is m with x at each node of the places a .. top
-pub record Filled (m m′ st : ℕ → ℕ) (a top x : ℕ) : Type 0 where
+pub record Painted (m m′ st : ℕ → ℕ) (a top x : ℕ) : Type 0 where
   pub put : (p : ℕ) → a ≤ p → p < top → m′ (st p) ≡ x
   pub rest : (s : ℕ) → ((p : ℕ) → a ≤ p → p < top → st p ≡ s → ⊥) → m′ s ≡ m s

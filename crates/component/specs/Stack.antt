@@ -9,7 +9,7 @@ use Prim.Native.Nat.{ℕ, suc, _+_, _*_, _≤_, _<_}
 use lib.ListN.{getD}
 use lib.Dec.{eqb}
 use Rattle.theory.specs.Below.{bit, count}
-use Rattle.theory.specs.System.{System, Reaches, OnClosedWalk}
+use Rattle.theory.specs.System.{System, Reaches, OnClosedWalkIn}
 use Rattle.theory.specs.Height.{IsHeight}
 
 abbrev pub at : List ℕ → ℕ → ℕ
@@ -37,7 +37,7 @@ pub record Finished (Y : System) (n : ℕ) (m : ℕ → ℕ) (room s : ℕ) : Ty
   pub c : Bool
   pub is : m s ≡ suc n + (2 * h + bit c)
   pub height : IsHeight Y s h
-  pub closed : (c ≡ true) ↔ OnClosedWalk Y s
+  pub closed : (c ≡ true) ↔ OnClosedWalkIn Y s
   pub low : h + room < n
   pub kept : (t : ℕ) → Y .flow s t ≡ true → n < m t
 

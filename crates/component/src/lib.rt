@@ -9,12 +9,13 @@ ghost use lib.ListN.{length, set};
 ghost use lib.Dec.{ltb};
 ghost use Rattle.theory.specs.Below.{bit};
 ghost use Rattle.limits.specs.Limits.{maxStates, maxSteps};
-ghost use Rattle.component.specs.Marks.{Shape, Marks};
+ghost use Rattle.component.specs.Marks.{GraphLists, Marks};
 ghost use Rattle.component.specs.Graph.{graphOf};
 ghost use Rattle.component.specs.Stack.{at as value};
-ghost use Rattle.component.specs.Scan.{Cursor, NewPlace, LowAt, Low, Merged, heightIn, MostAt, MostFrom, Most, Filled};
+ghost use Rattle.component.specs.Scan.{Cursor, NewPlace, LowAt, Low, Merged, heightIn, MostAt, MostFrom, Most, Painted};
 ghost use Rattle.component.specs.Pass.{Entered, Pass, NoNew, Moved, Popped};
 use limits::Word;
+use limits::zero::clear;
 
 // How far the stack, the segments and the path reach, and the place of the current node, the path's last, on the stack.
 pub struct Tops {
@@ -26,7 +27,7 @@ pub struct Tops {
 
 // The place of the first new successor of v at `from` or later, or the end of their places.
 fn new_place(first: &[u32], targets: &[Word], mark: &[Word], v: usize, from: usize) -> usize
-    requires { ⌜ Shape (now first) (now targets) (length (now mark)) × (v < length (now mark)) ⌝ }
+    requires { ⌜ GraphLists (now first) (now targets) (length (now mark)) × (v < length (now mark)) ⌝ }
     requires { ⌜ Cursor (now first) (now targets) (value (now mark)) v from ⌝ }
     ensures { λ r. ⌜ NewPlace (now (first .entry)) (now (targets .entry)) (value (now (mark .entry))) v r ⌝ }
 {
@@ -58,7 +59,7 @@ fn low_at(mark: &[Word], t: usize, low: usize) -> usize
 
 // The lowest place on the stack of a successor of v, or top.
 fn low_succ(first: &[u32], targets: &[Word], mark: &[Word], v: usize, top: usize) -> usize
-    requires { ⌜ Shape (now first) (now targets) (length (now mark)) × (v < length (now mark)) ⌝ }
+    requires { ⌜ GraphLists (now first) (now targets) (length (now mark)) × (v < length (now mark)) ⌝ }
     ensures { λ r. ⌜ Low (graphOf (now (first .entry)) (now (targets .entry)) (length (now (mark .entry)))) (value (now (mark .entry))) v top r ⌝ }
 {
     let end = first[v + 1] as usize;
@@ -107,7 +108,7 @@ fn height_from(
     v: usize,
     h: usize,
 ) -> usize
-    requires { ⌜ Shape (now first) (now targets) n × (length (now mark) ≡ n) × (v < n) ⌝ }
+    requires { ⌜ GraphLists (now first) (now targets) n × (length (now mark) ≡ n) × (v < n) ⌝ }
     ensures { λ r. ⌜ MostFrom (graphOf (now (first .entry)) (now (targets .entry)) n) n (value (now (mark .entry))) v h r ⌝ }
 {
     let end = first[v + 1] as usize;
@@ -130,7 +131,7 @@ fn height_of(
     a: usize,
     top: usize,
 ) -> usize
-    requires { ⌜ Shape (now first) (now targets) n × (length (now mark) ≡ n) ⌝ }
+    requires { ⌜ GraphLists (now first) (now targets) n × (length (now mark) ≡ n) ⌝ }
     requires { ⌜ (a ≤ top) × (top ≤ length (now stack)) × ((p : ℕ) → p < top → value (now stack) p < n) ⌝ }
     ensures { λ r. ⌜ Most (graphOf (now (first .entry)) (now (targets .entry)) n) n (value (now (mark .entry)))
         (value (now (stack .entry))) a top r ⌝ }
@@ -147,7 +148,7 @@ fn height_of(
 // x as the mark of the nodes at the places a .. top of the stack.
 fn fill(mark: &mut [Word], stack: &[Word], a: usize, top: usize, x: Word)
     requires { ⌜ (a ≤ top) × (top ≤ length (now stack)) × ((p : ℕ) → p < top → value (now stack) p < length (now mark)) ⌝ }
-    ensures { λ r. ⌜ Filled (value (now (mark .entry))) (value (now (mark .exit))) (value (now (stack .entry))) a top x ⌝ }
+    ensures { λ r. ⌜ Painted (value (now (mark .entry))) (value (now (mark .exit))) (value (now (stack .entry))) a top x ⌝ }
 {
     let mut p = a;
     while p < top {
@@ -209,7 +210,7 @@ fn pop(
     w: usize,
     before: usize,
 ) -> Tops
-    requires { ⌜ Shape (now first) (now targets) n × (length (now mark) ≡ n) × (length (now stack) ≡ n) ⌝ }
+    requires { ⌜ GraphLists (now first) (now targets) n × (length (now mark) ≡ n) × (length (now stack) ≡ n) ⌝ }
     requires { ⌜ (at .cur ≤ at .top) × (at .top ≤ n) × (0 < at .segs) × (0 < at .depth) ⌝ }
     requires { ⌜ ((p : ℕ) → p < at .top → value (now stack) p < n) ⌝ }
     requires { ⌜ ((t : ℕ) → t < n → n < value (now mark) t → heightIn n (value (now mark) t) < n) ⌝ }
@@ -407,16 +408,6 @@ fn explore_all(
     }
 }
 
-fn clear(mark: &mut [Word])
-    ensures { λ r. ⌜ ((s : ℕ) → s < length (now (mark .entry)) → value (now (mark .exit)) s ≡ 0) ⌝ }
-{
-    let mut s = 0;
-    while s < mark.len() {
-        mark[s] = 0;
-        s += 1;
-    }
-}
-
 // The marks of the finished nodes as 2h + c.
 fn settle(mark: &mut [Word], n: usize)
     requires { ⌜ (n ≤ maxStates) × (length (now mark) ≡ n) × ((s : ℕ) → s < n → n < value (now mark) s) ⌝ }
@@ -441,7 +432,7 @@ pub fn components(
     start: &mut [Word],
     n: usize,
 )
-    requires { ⌜ Shape (now first) (now targets) n ⌝ }
+    requires { ⌜ GraphLists (now first) (now targets) n ⌝ }
     requires { ⌜ (length (now mark) ≡ n) × (length (now stack) ≡ n) × (length (now path) ≡ n) × (length (now start) ≡ n) ⌝ }
     ensures { λ r. ⌜ Marks (now (first .entry)) (now (targets .entry)) n (now (mark .exit)) ⌝ }
 {

@@ -7,7 +7,7 @@ ghost use mathlib.Core.Bool.{true};
 ghost use Prim.Native.Nat.{ℕ, _+_, _≤_, _<_};
 ghost use lib.ListN.{getD, length};
 ghost use Rattle.limits.specs.Limits.{maxStates};
-ghost use Rattle.component.specs.Marks.{Shape};
+ghost use Rattle.component.specs.Marks.{GraphLists};
 
 fn ascending(first: &[u32], n: usize) -> bool
     requires { ⌜ length (now first) ≡ n + 1 ⌝ }
@@ -39,7 +39,7 @@ fn all_below(targets: &[u16], end: usize, n: usize) -> bool
 
 // What the pass requires of two lists.
 fn shaped(first: &[u32], targets: &[u16], n: usize) -> bool
-    ensures { λ r. ⌜ (r ≡ true → Shape (now (first .entry)) (now (targets .entry)) n) ⌝ }
+    ensures { λ r. ⌜ (r ≡ true → GraphLists (now (first .entry)) (now (targets .entry)) n) ⌝ }
 {
     if MAX_STATES < n {
         return false;

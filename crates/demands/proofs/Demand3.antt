@@ -15,7 +15,7 @@ use borrow.Author.Tests.{lt-ltb, le-ltb}
 use Rattle.theory.specs.Below.{bit}
 use Rattle.theory.specs.Automaton.{Edge, Run}
 use Rattle.theory.specs.System.{System}
-use Rattle.theory.specs.Marked.{Marked, unsafe}
+use Rattle.theory.specs.Marked.{MarkedIn, unsafe}
 use Rattle.theory.specs.RegionGraph.{ForbiddenMarked}
 use Rattle.theory.specs.Sheet.{inOf}
 use Rattle.theory.specs.StateGraph.{labelledOf}
@@ -114,7 +114,7 @@ module _ (bytes lent : List ℕ) (taken : refusal bytes lent ≡ 0) where
   -- ---- what passing evidence shows
 
   -- a passing sheet holds every marked state, and none of them is forbidden
-  pub sheet-holds-marked : (shown : List ℕ) (p : SheetPasses m shown) (s : ℕ) → Marked Y s → (inOf (p .0) s ≡ true) × (Y .forbidden s ≡ false)
+  pub sheet-holds-marked : (shown : List ℕ) (p : SheetPasses m shown) (s : ℕ) → MarkedIn Y s → (inOf (p .0) s ≡ true) × (Y .forbidden s ≡ false)
   sheet-holds-marked shown (l, s, K) = sheet-sound Y (system-laws m ok) l (is-sheet Y (system-laws m ok) l K)
 
   sheet-is-safe : (shown : List ℕ) → SheetPasses m shown → unsafe Y ≡ false

@@ -4,7 +4,7 @@ use mathlib.Core.Bool.{Bool, true, false, _&&_}
 use mathlib.Core.List.{List, [], _∷_}
 use lib.ListN.{length, take}
 use lib.Dec.{eqb}
-use Rattle.theory.specs.Lists.{every, same}
+use Rattle.theory.specs.Lists.{same}
 use Rattle.theory.specs.Region.{Region, clock, regions, lawful, corners, successor}
 use Rattle.theory.specs.StateGraph.{sameRegion}
 use Rattle.evidence.specs.Ours.{ourEvidence}
@@ -47,8 +47,8 @@ abbrev pub tiny : ℕ → List ℕ
 tiny kind = 1 ∷ 1 ∷ 1 ∷ 1 ∷ 0 ∷ 0 ∷ kind ∷ 0 ∷ []
 
 -- "Loop plan"
-abbrev pub loopPlan : List ℕ
-loopPlan =
+abbrev pub loopBytes : List ℕ
+loopBytes =
     1 ∷ 2 ∷ 2 ∷ 4 ∷ 4 ∷ 0
     ∷ 0 ∷ 0 ∷ 0
     ∷ 0 ∷ 0 ∷ 0
@@ -84,6 +84,6 @@ bench =
     ∷ ours-is (tiny 1) (2 ∷ 0 ∷ [])
     ∷ check-gives (tiny 1) (2 ∷ 0 ∷ []) 0 (2 ∷ [])
     -- "P: a passing trail, perhaps not ours: 2,8,0,0,1,0,..", "P: its first 33 bytes: 1."
-    ∷ check-gives loopPlan loopTrail 0 (2 ∷ [])
-    ∷ check-gives loopPlan (take 33 loopTrail) 1 []
+    ∷ check-gives loopBytes loopTrail 0 (2 ∷ [])
+    ∷ check-gives loopBytes (take 33 loopTrail) 1 []
     ∷ []

@@ -1,16 +1,14 @@
 -- Every value of an answer fits its field.
 use Prim.Native.Nat.{ℕ, zero, suc, _+_, _*_, _%_, _^_, _≤_, zero-le}
-use native.Mathlib.Nat.{le-of-lt}
+use native.Mathlib.Nat.{le-of-lt, le-trans}
 use native.Mathlib.Omega.{arith}
-use native.Mathlib.Nat.{le-trans}
 use mathlib.Core.Path.{_≡_, refl, sym, _∙_}
 use mathlib.Core.Bool.{Bool, true, false, cond}
 use mathlib.Core.List.{List, [], _∷_}
 use lib.ListN.{length, getD}
 use lib.Dec.{eqb, ltb}
 use borrow.Author.Tests.{eqb-true, ltb-true}
-use Rattle.theory.specs.Below.{bit, count}
-use Rattle.theory.specs.System.{System, Laws}
+use Rattle.graph.proofs.Plan.{size-states}
 use Rattle.theory.specs.Marked.{marks, unsafe}
 use Rattle.theory.specs.Trail.{trailSteps}
 use Rattle.theory.proofs.Below.{bit-le, count-le, cond-ind}
@@ -24,7 +22,6 @@ use Rattle.graph.specs.States.{states}
 use Rattle.graph.proofs.Models.{system-laws}
 use Rattle.successors.proofs.Room.{states-limit}
 use Rattle.number.specs.declared.Number.{Number}
-use Rattle.number.specs.declared.Number.the-variants as number
 use Rattle.number.specs.Number.{readNumber}
 use Rattle.number.proofs.Laws.{Sound, sound}
 use Rattle.evidence.specs.Ours.{ourEvidence}
@@ -36,12 +33,12 @@ use Rattle.robust.specs.Margin.{margin}
 use Rattle.robust_models.proofs.Models.{margin-uniform}
 use Rattle.op_margin.specs.Margin.{marginAnswer}
 use Rattle.number.specs.Answer.{Answer, answer}
-use Rattle.call.specs.Call.{modelOf, statesOf, enough, refusal}
+use Rattle.call.specs.Call.{modelOf, statesOf, refusal}
 use Rattle.op_judge.specs.Judge.{countOf, verdict, judged}
 use Rattle.op_marks.specs.Marks.{marksRefusal, marked}
-use Rattle.survey.proofs.Tables.{size-states}
 use Rattle.theory.proofs.Trail.{steps-verdict}
-use Rattle.drift_c.specs.Words.{value, judgeWord, marksWord, checkWord, writeWord, numberWord, marginWord, SmallValue, Fields, Room}
+use Rattle.drift_c.specs.Words.{value, judgeWord, marksWord, checkWord, writeWord, numberWord, marginWord, SmallValue, maxField, Fields, BytesFit}
+use Rattle.number.specs.declared.Number.the-variants as number
 
 module _ (m : Model) (ok : Lawful m) where
   count-small : countOf (systemOfModel m) ≤ states m
@@ -49,15 +46,15 @@ module _ (m : Model) (ok : Lawful m) where
   count-small =
       let Y = systemOfModel m in
       let laws = system-laws m ok in
-      rw (← size-states m ok)
+      rw (← size-states m)
       (cond-ind (λ (k : ℕ). k ≤ Y .size) (unsafe Y)
       (λ u. le-of-lt (ltb-true (trailSteps Y) (Y .size) (sym (steps-verdict Y laws) ∙ u)))
       (λ _. count-le (Y .size) (marks Y)))
 
-  verdict-small : (i : ℕ) → getD (verdict (systemOfModel m)) i 0 ≤ 65535
+  verdict-small : (i : ℕ) → getD (verdict (systemOfModel m)) i 0 ≤ maxField
   unfolding verdict
   verdict-small zero = omega (arith, bit-le (unsafe (systemOfModel m)))
-  verdict-small (suc zero) = omega (arith, size-states m ok, states-limit ok)
+  verdict-small (suc zero) = omega (arith, size-states m, states-limit ok)
   verdict-small (suc (suc zero)) = omega (arith, count-small, states-limit ok)
   verdict-small (suc (suc (suc i))) = zero-le
 
@@ -65,12 +62,12 @@ pub judge-fields : (bytes lent : List ℕ) → Fields (judged bytes lent)
 unfolding judged answer
 judge-fields bytes lent =
     record {
-      fit = λ i. cond-ind (λ (a : Answer). value a i ≤ 65535) (eqb (refusal bytes lent) 0)
+      fit = λ i. cond-ind (λ (a : Answer). value a i ≤ maxField) (eqb (refusal bytes lent) 0)
           (λ t. verdict-small (modelOf bytes) (accepted bytes lent (eqb-true _ _ t)) i)
           (λ _. zero-le);
     }
 
-states-small : (m : Model) → Lawful m → (i : ℕ) → getD (states m ∷ []) i 0 ≤ 65535
+states-small : (m : Model) → Lawful m → (i : ℕ) → getD (states m ∷ []) i 0 ≤ maxField
 states-small m ok zero = omega (arith, states-limit ok)
 states-small m ok (suc i) = zero-le
 
@@ -78,7 +75,7 @@ pub marks-fields : (bytes lent : List ℕ) (room : ℕ) → Fields (marked bytes
 unfolding marked answer marksRefusal
 marks-fields bytes lent room =
     record {
-      fit = λ i. cond-ind (λ (a : Answer). value a i ≤ 65535) (eqb (marksRefusal bytes lent room) 0)
+      fit = λ i. cond-ind (λ (a : Answer). value a i ≤ maxField) (eqb (marksRefusal bytes lent room) 0)
           (λ t. states-small (modelOf bytes) (accepted bytes lent (past (eqb-true (marksRefusal bytes lent room) 0 t))) i)
           (λ _. zero-le);
     }
@@ -88,10 +85,10 @@ marks-fields bytes lent room =
 
 -- ---- words by cases of an answer
 
-pub verdict-fields : (b s k : ℕ) → b ≤ 1 → Fields (record { number = 0; values = b ∷ s ∷ k ∷ [] }) → (b ≤ 1) × (s ≤ 65535) × (k ≤ 65535)
+pub verdict-fields : (b s k : ℕ) → b ≤ 1 → Fields (record { number = 0; values = b ∷ s ∷ k ∷ [] }) → (b ≤ 1) × (s ≤ maxField) × (k ≤ maxField)
 verdict-fields b s k h f = (h, f .fit 1, f .fit 2)
 
-pub verdict-word-is : (w b s k : ℕ) → w ≡ b * 256 + s * 65536 + k * 1099511627776 → w ≡ judgeWord (record { number = 0; values = b ∷ s ∷ k ∷ [] })
+pub verdict-word-is : (w b s k : ℕ) → w ≡ 2 ^ 8 * b + 2 ^ 16 * s + 2 ^ 40 * k → w ≡ judgeWord (record { number = 0; values = b ∷ s ∷ k ∷ [] })
 unfolding judgeWord
 verdict-word-is w b s k e = omega (arith, e)
 
@@ -124,7 +121,7 @@ unfolding writeWord
 write-refused-is r = omega arith
 
 -- the number of bytes fits
-pub write-room : (bytes lent : List ℕ) (room : ℕ) → Room (writeAnswer bytes lent room)
+pub write-room : (bytes lent : List ℕ) (room : ℕ) → BytesFit (writeAnswer bytes lent room)
 unfolding writeAnswer answer writtenAnswer writtenFor verdictWith
 write-room bytes lent room =
     record {
@@ -168,12 +165,12 @@ pub margin-fields : (bytes : List ℕ) → Fields (marginAnswer bytes)
 unfolding marginAnswer answer
 margin-fields bytes =
     record {
-      fit = λ i. cond-ind (λ (a : Answer). value a i ≤ 65535) (eqb (readModel bytes .refusal) 0)
+      fit = λ i. cond-ind (λ (a : Answer). value a i ≤ maxField) (eqb (readModel bytes .refusal) 0)
           (λ t. few (accepted-lawful bytes (eqb-true _ _ t)) i)
           (λ _. zero-le);
     }
   where
-    few : Lawful (modelOf bytes) → (i : ℕ) → getD (statesOf bytes ∷ margin (automatonOf (modelOf bytes)) (modelOf bytes .locations) ∷ []) i 0 ≤ 65535
+    few : Lawful (modelOf bytes) → (i : ℕ) → getD (statesOf bytes ∷ margin (automatonOf (modelOf bytes)) (modelOf bytes .locations) ∷ []) i 0 ≤ maxField
     few ok zero = omega (arith, states-limit ok)
     few ok (suc zero) = omega (arith, margin-uniform (modelOf bytes) ok)
     few ok (suc (suc i)) = zero-le

@@ -1,7 +1,6 @@
 -- Answers as one number each, made of fields. On a refusal the fields beside the number are 0.
-use mathlib.Core.List.{List}
 use mathlib.Core.Path.{_≡_}
-use Prim.Native.Nat.{ℕ, _+_, _*_, _%_, _^_, _≤_, _<_}
+use Prim.Native.Nat.{ℕ, _+_, _-_, _*_, _%_, _^_, _≤_, _<_}
 use lib.ListN.{getD}
 use Rattle.number.specs.declared.Number.{Number}
 use Rattle.number.specs.declared.Number.the-variants.{Value, Refused}
@@ -42,9 +41,13 @@ SmallValue (Value v to) = v < 2 ^ 21
 SmallValue (Refused r) = r ≡ r
 
 -- the number of bytes fits its field
-pub record Room (a : Answer) : Type 0 where
+pub record BytesFit (a : Answer) : Type 0 where
   pub few : value a 1 ≤ 2 ^ 40
+
+-- the states and the count have 24 bits each
+abbrev pub maxField : ℕ
+maxField = 2 ^ 24 - 1
 
 -- the values fit their fields
 pub record Fields (a : Answer) : Type 0 where
-  pub fit : (i : ℕ) → value a i ≤ 65535
+  pub fit : (i : ℕ) → value a i ≤ maxField

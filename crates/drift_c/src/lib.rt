@@ -1,7 +1,7 @@
 // The operations for callers in C and other languages: each slice is a pointer and a length, and the answer is one number made of fields.
 
 ghost use mathlib.Core.Path.{_≡_};
-ghost use Prim.Native.Nat.{_+_, _*_, _≤_};
+ghost use Prim.Native.Nat.{_+_, _*_, _^_, _≤_};
 ghost use lib.ListN.{length};
 ghost use Rattle.call.specs.Scratch.{lengths, ScratchLeft};
 ghost use Rattle.op_judge.specs.Judge.{judged, judgementAnswer};
@@ -10,7 +10,7 @@ ghost use Rattle.op_check.specs.Check.{checkAnswer, evidenceAnswer};
 ghost use Rattle.op_margin.specs.Margin.{marginAnswer, toleranceAnswer};
 ghost use Rattle.op_write.specs.Write.{writeAnswer, writeOutput, writtenAnswer};
 ghost use Rattle.number.specs.Number.{readNumber};
-ghost use Rattle.drift_c.specs.Words.{judgeWord, marksWord, checkWord, writeWord, numberWord, marginWord, Fields, Room, SmallValue};
+ghost use Rattle.drift_c.specs.Words.{judgeWord, marksWord, checkWord, writeWord, numberWord, marginWord, maxField, Fields, BytesFit, SmallValue};
 use drift::Evidence;
 use drift::Judgement;
 use drift::Marking;
@@ -19,12 +19,24 @@ use drift::Written;
 use limits::Word;
 use number::Number;
 
+// Where the fields of an answer begin; the number of a refusal stands before them.
+const AT_VERDICT: u64 = 1 << 8;
+
+const AT_STATES: u64 = 1 << 16;
+
+const AT_COUNT: u64 = 1 << 40;
+
+// And those of a number: its value, and the offset after it.
+const AT_VALUE: u64 = 1 << 8;
+
+const AT_NEXT: u64 = 1 << 32;
+
 // The fields of a verdict.
 fn verdict_word(verdict: u64, states: usize, count: usize) -> u64
-    requires { ⌜ (verdict ≤ 1) × (states ≤ 65535) × (count ≤ 65535) ⌝ }
-    ensures { λ r. ⌜ r ≡ verdict * 256 + states * 65536 + count * 1099511627776 ⌝ }
+    requires { ⌜ (verdict ≤ 1) × (states ≤ maxField) × (count ≤ maxField) ⌝ }
+    ensures { λ r. ⌜ r ≡ 2 ^ 8 * verdict + 2 ^ 16 * states + 2 ^ 40 * count ⌝ }
 {
-    verdict * 256 + states as u64 * 65536 + count as u64 * 1099511627776
+    verdict * AT_VERDICT + states as u64 * AT_STATES + count as u64 * AT_COUNT
 }
 
 fn judge_word(answer: Judgement) -> u64
@@ -43,7 +55,7 @@ fn marks_word(answer: Marking) -> u64
     ensures { λ r. ⌜ r ≡ marksWord (markingAnswer answer) ⌝ }
 {
     match answer {
-        Marking::Marked(states) => states as u64 * 65536,
+        Marking::Marked(states) => states as u64 * AT_STATES,
         Marking::Refused(number) => number as u64,
     }
 }
@@ -52,19 +64,19 @@ fn check_word(answer: Evidence) -> u64
     ensures { λ r. ⌜ r ≡ checkWord (evidenceAnswer answer) ⌝ }
 {
     match answer {
-        Evidence::Sheet => 256,
-        Evidence::Trail => 512,
+        Evidence::Sheet => AT_VERDICT,
+        Evidence::Trail => 2 * AT_VERDICT,
         Evidence::Refused(number) => number as u64,
     }
 }
 
 fn write_word(answer: Written) -> u64
-    requires { ⌜ Room (writtenAnswer answer) ⌝ }
+    requires { ⌜ BytesFit (writtenAnswer answer) ⌝ }
     ensures { λ r. ⌜ r ≡ writeWord (writtenAnswer answer) ⌝ }
 {
     match answer {
-        Written::Safe(bytes) => bytes as u64 * 65536,
-        Written::Unsafe(bytes) => 256 + bytes as u64 * 65536,
+        Written::Safe(bytes) => bytes as u64 * AT_STATES,
+        Written::Unsafe(bytes) => AT_VERDICT + bytes as u64 * AT_STATES,
         Written::Refused(number) => number as u64,
     }
 }
@@ -74,9 +86,7 @@ fn margin_word(answer: Tolerance) -> u64
     ensures { λ r. ⌜ r ≡ marginWord (toleranceAnswer answer) ⌝ }
 {
     match answer {
-        Tolerance::Bound(states, margin) => {
-            states as u64 * 65536 + margin as u64 * 1099511627776
-        }
+        Tolerance::Bound(states, margin) => { states as u64 * AT_STATES + margin as u64 * AT_COUNT }
         Tolerance::Refused(number) => number as u64,
     }
 }
@@ -86,7 +96,7 @@ fn number_word(answer: Number) -> u64
     ensures { λ r. ⌜ r ≡ numberWord answer ⌝ }
 {
     match answer {
-        Number::Value(value, next) => value as u64 * 256 + next as u64 % 4294967296 * 4294967296,
+        Number::Value(value, next) => value as u64 * AT_VALUE + next as u64 % AT_NEXT * AT_NEXT,
         Number::Refused(number) => number as u64,
     }
 }

@@ -1,17 +1,16 @@
 -- Our evidence passes: its numbers fit three groups, and what they spell keeps the rules or replays.
-use mathlib.Core.Path.{_≡_, refl, sym, ap, subst, _∙_}
-use mathlib.Core.Bool.{Bool, true, false}
+use mathlib.Core.Path.{_≡_}
+use mathlib.Core.Bool.{true, false}
 use mathlib.Core.Logic.{_⊎_, inl, inr, ⊎-elim}
-use mathlib.Core.List.{List, [], _∷_, _++_, map, List·Memᴰ, List·Memᴰ·not-nil, List·Memᴰ·cases-cons, List·Memᴰ·append-cases}
-use Prim.Native.Nat.{ℕ, zero, suc, _+_, _-_, _*_, _%_, _^_, _≤_, _<_}
+use mathlib.Core.List.{List, [], _∷_, _++_, List·Memᴰ, List·Memᴰ·not-nil, List·Memᴰ·cases-cons, List·Memᴰ·append-cases}
+use Prim.Native.Nat.{ℕ, zero, suc, _+_, _%_, _^_, _≤_, _<_}
 use native.Mathlib.Nat.{mod-lt}
 use native.Mathlib.Omega.{arith}
-use lib.ListN.{length}
 use lib.Dec.{eqb, ltb}
-use Rattle.theory.specs.Below.{least, tab}
-use Rattle.theory.specs.Lists.{from}
+use Rattle.limits.specs.Limits.{maxStates, maxEdges}
+use Rattle.graph.proofs.Plan.{labels-are}
+use Rattle.theory.specs.Below.{tab}
 use Rattle.theory.specs.Walk.{exact, dist⁺}
-use Rattle.theory.specs.Region.{Region}
 use Rattle.theory.specs.Enumeration.{key}
 use Rattle.theory.specs.StateGraph.{regionCount, regionOf, systemOf, labelledOf}
 use Rattle.theory.specs.System.{System}
@@ -29,14 +28,11 @@ use Rattle.theory.proofs.Trail.{unsafe-trail, trail-steps-below}
 use Rattle.theory.proofs.StateGraph.{count-positive}
 use Rattle.theory.proofs.Labels.{closed-labels-length}
 use Rattle.theory.proofs.Replay.{our-moves-length, our-moves-pass}
-use Rattle.number.specs.Number.{spellAll}
 use Rattle.evidence_number.proofs.Reading.{shortest-spelled}
 use Rattle.model.specs.declared.Model.{Model}
 use Rattle.model.specs.Model.{Lawful}
-use Rattle.graph.specs.Plan.{edgeOf, automatonOf, systemOfModel, labelledOfModel}
+use Rattle.graph.specs.Plan.{automatonOf, systemOfModel, labelledOfModel}
 use Rattle.graph.proofs.Models.{system-laws, labelled-laws}
-use Rattle.graph.proofs.States.{clocks-of, ceiling-of}
-use Rattle.successors.proofs.Leaving.{from-length}
 use Rattle.successors.proofs.Room.{states-limit}
 use Rattle.replay.specs.Spelling.{labelNumbers, walkNumbers, moveNumbers, movesNumbers, trailNumbers}
 use Rattle.evidence.specs.Evidence.{SheetPasses, TrailPasses}
@@ -65,10 +61,6 @@ unfolding tab
 fit-tab zero f h = fit-none
 fit-tab (suc n) f h = fit-more (h zero (omega arith)) (fit-tab n (λ i. f (suc i)) (λ i k. h (suc i) (omega arith)))
 
-map-length : {A B : Type 0} (f : A → B) (l : List A) → length (map f l) ≡ length l
-map-length f [] = refl
-map-length f (x ∷ l) = ap suc (map-length f l)
-
 fit-label : (x : ℕ) → x < 2 ^ 21 → Fit (labelNumbers x)
 fit-label zero h = fit-more (omega arith) fit-none
 fit-label (suc e) h = fit-more (omega arith) (fit-more (omega arith) fit-none)
@@ -80,7 +72,7 @@ module _ (m : Model) (ok : Lawful m) where
   abbrev P : LabelledSystem
   P = labelledOfModel m
 
-  size-few : Y .size ≤ 15816
+  size-few : Y .size ≤ maxStates
   unfolding systemOf
   size-few = omega (arith, states-limit ok)
 
@@ -95,9 +87,8 @@ module _ (m : Model) (ok : Lawful m) where
       (λ w k. omega (arith, lawful-whole (m .clocks) (m .ceiling) _ h w k, ok .ceiling .1))
       (λ r k. omega (arith, lawful-rank (m .clocks) (m .ceiling) _ h r k, ok .clocks .1))
 
-  labels-few : P .labels ≤ 25
-  unfolding labelledOf automatonOf
-  labels-few = omega (arith, map-length (edgeOf m) (from 0 (m .edges)), from-length 0 (m .edges), ok .edges)
+  labels-few : P .labels ≤ maxEdges + 1
+  labels-few = omega (arith, labels-are m, ok .edges)
 
   fit-least : (p q : ℕ) → leastLabel P p q < 2 ^ 21
   unfolding leastLabel

@@ -1,7 +1,5 @@
 -- Why the writer is right.
 
--- The moves of our trail, spelled part by part.
-pub mod Moves
 -- The verdict from the distances; what the search for the trail is given.
 pub mod Verdict
 -- What the output holds in the end.

@@ -1,29 +1,28 @@
 -- What the output holds in the end.
-use Prim.Native.Nat.{ℕ, zero, suc, _≤_, _<_}
+use Prim.Native.Nat.{ℕ, _≤_, _<_}
 use native.Mathlib.Omega.{arith}
-use mathlib.Core.Path.{_≡_, refl, sym, ap, _∙_}
+use mathlib.Core.Path.{_≡_, refl, ap, _∙_}
 use mathlib.Core.Bool.{Bool, true, false}
 use mathlib.Core.Logic.{⊎-elim}
 use mathlib.Core.List.{List, [], _∷_, _++_}
 use lib.ListN.{length, drop}
 use borrow.Author.Tests.{lt-ltb, le-ltb}
+use Rattle.graph.proofs.Plan.{size-states}
 use Rattle.theory.specs.Marked.{unsafe}
 use Rattle.theory.specs.Below.{tab}
 use Rattle.theory.specs.Sheet.{ourSheet, number}
-use Rattle.theory.proofs.Below.{either}
+use Rattle.theory.proofs.Below.{either, tab-length}
 use Rattle.number.specs.Number.{spellAll}
 use Rattle.model.specs.declared.Model.{Model}
 use Rattle.model.specs.Model.{Lawful}
 use Rattle.graph.specs.Plan.{systemOfModel}
 use Rattle.successors.proofs.Room.{states-limit}
-use Rattle.survey.proofs.Tables.{size-states}
-use Rattle.spelling.specs.Lays.{Lays, mostBytes}
+use Rattle.spelling.specs.Lays.{Lays, maxBytes}
 use Rattle.spelling.proofs.Lays.{lays-whole, spell-all-few}
 use Rattle.evidence.specs.Ours.{ourSheetNumbers, ourTrailNumbers, ourEvidence}
-use Rattle.evidence_writer.specs.declared.Written.{Written}
 use Rattle.evidence_writer.specs.declared.Written.the-variants.{Safe, Unsafe, Refused}
 use Rattle.evidence_writer.specs.Written.{evidenceIn, verdictWith, writtenFor}
-use Rattle.evidence_writer.proofs.Moves.{trail-most}
+use Rattle.trail_writer.proofs.Moves.{trail-most}
 
 -- no part of an output is lent: it stays
 pub none-lent : (xs out : List ℕ) → length xs ≡ 0 → xs ++ out ≡ out
@@ -76,18 +75,13 @@ written-as m bad need room u e = rw (u, e) refl
 
 -- ---- offsets are small
 
-tab-length : (n : ℕ) (f : ℕ → ℕ) → length (tab n f) ≡ n
-unfolding tab
-tab-length zero f = refl
-tab-length (suc n) f = ap suc (tab-length n (λ i. f (suc i)))
-
-sheet-most : (m : Model) → Lawful m → length (spellAll (ourSheetNumbers m)) ≤ mostBytes
+sheet-most : (m : Model) → Lawful m → length (spellAll (ourSheetNumbers m)) ≤ maxBytes
 unfolding ourSheetNumbers ourSheet
 sheet-most m ok =
     let Y = systemOfModel m in
-    omega (arith, spell-all-few (1 ∷ tab (Y .size) (number Y)), tab-length (Y .size) (number Y), size-states m ok, states-limit ok)
+    omega (arith, spell-all-few (1 ∷ tab (Y .size) (number Y)), tab-length (Y .size) (number Y), size-states m, states-limit ok)
 
-pub evidence-most : (m : Model) → Lawful m → length (ourEvidence m) ≤ mostBytes
+pub evidence-most : (m : Model) → Lawful m → length (ourEvidence m) ≤ maxBytes
 unfolding ourEvidence
 evidence-most m ok =
     ⊎-elim (λ u. rw u (trail-most m ok u)) (λ u. rw u (sheet-most m ok)) (either (unsafe (systemOfModel m)))

@@ -6,6 +6,7 @@ use mathlib.Core.Bool.{true, false}
 use mathlib.Core.List.{List}
 use lib.ListN.{length}
 use borrow.Author.Tests.{lt-ltb, le-ltb}
+use Rattle.graph.proofs.Plan.{size-states}
 use Rattle.limits.specs.Limits.{pointCount}
 use Rattle.theory.specs.Marked.{unsafe}
 use Rattle.theory.specs.Trail.{trailSteps}
@@ -17,11 +18,11 @@ use Rattle.graph.specs.Plan.{systemOfModel}
 use Rattle.graph.specs.States.{states}
 use Rattle.graph.proofs.Models.{system-laws}
 use Rattle.search.specs.Queue.{reachedCount, ByLevel}
-use Rattle.marking.specs.Tables.{Shape}
+use Rattle.marking.specs.Tables.{SearchTables}
 use Rattle.successors.specs.Flow.{FlowLists}
 use Rattle.region_corners.specs.Shapes.{Linked}
 use Rattle.survey.specs.Surveyed.{Levelled}
-use Rattle.survey.proofs.Tables.{size-states, asked, tables-by}
+use Rattle.survey.proofs.Tables.{asked, tables-by}
 use Rattle.survey.proofs.Forbidden.{kinds, forbids-by}
 use Rattle.trail_states.specs.Told.{Told}
 
@@ -29,7 +30,7 @@ module _ (m : Model) (ok : Lawful m) {first targets shapes heights distance queu
     (C : Linked (m .clocks) (m .ceiling) shapes) (K : Levelled m heights distance queue) (r : ℕ)
     (e : r ≡ length (regions (m .clocks) (m .ceiling))) (steps : ℕ) (s : steps ≡ trailSteps (systemOfModel m)) where
   distance-long : length distance ≡ states m
-  distance-long = K .surveyed .distances .long ∙ size-states m ok
+  distance-long = K .surveyed .distances .long ∙ size-states m
 
   pub unsafe-by : steps < length distance → unsafe (systemOfModel m) ≡ true
   unsafe-by b =
@@ -44,7 +45,7 @@ module _ (m : Model) (ok : Lawful m) {first targets shapes heights distance queu
   -- what the search for the trail's states asks
   pub trail-asked : (path : ℕ) → path ≡ states m → length queue ≡ states m → steps < length distance
       → (steps < length distance) × (m .start * r < length distance) × (steps ≤ path) × (length distance ≤ length (m .kind) * r)
-      × ByLevel distance queue (reachedCount distance) × Shape (length distance) r first targets shapes heights
+      × ByLevel distance queue (reachedCount distance) × SearchTables (length distance) r first targets shapes heights
   trail-asked path c g h =
       let long = distance-long in
       let Q = asked m ok first targets F shapes heights C r e distance queue (m .locations * pointCount) long g (K .surveyed .heights .long) refl in

@@ -1,4 +1,2 @@
--- What the writer of trails is lent.
-pub mod Lent
--- What it answers and leaves.
+-- What the writer answers and leaves.
 pub mod Written

@@ -16,11 +16,8 @@ ghost use Rattle.tables.specs.Tables.{Room};
 ghost use Rattle.call.specs.Scratch.{Scratch};
 ghost use Rattle.survey.specs.Surveyed.{Surveyed, Levelled};
 ghost use Rattle.evidence.specs.Ours.{ourEvidence};
-ghost use Rattle.evidence_writer.specs.Lent.{Ready};
+ghost use Rattle.trail_writer.specs.Lent.{WalkRoom};
 ghost use Rattle.evidence_writer.specs.Written.{evidenceIn, verdictWith, writtenFor};
-
-mod trail;
-
 use limits::MAX_REGIONS;
 use limits::MAX_STATES;
 use limits::MAX_STEPS;
@@ -34,7 +31,7 @@ use limits::refusal::OUTPUT_SHORT;
 use model::Model;
 use shapes::MAX_SHAPES;
 use shapes::SMALL_SHAPES;
-use trail::put_trail;
+use trail_writer::put_trail;
 
 // The verdict with the number of bytes written, or the refusal, 9.
 pub enum Written {
@@ -50,13 +47,13 @@ fn write_trail(
     first: &[u32],
     targets: &[Word],
     path: &[Word],
-    far: &mut [Word],
+    level: &mut [Word],
     queue: &mut [Word],
     walk: &mut [Word],
     out: &mut [u8],
 ) -> usize
     requires { ⌜
-        Ready m (now table) (now first) (now targets) (length (now far)) (length (now queue)) (length (now walk))
+        WalkRoom m (now table) (now first) (now targets) (length (now level)) (length (now queue)) (length (now walk))
         × (unsafe (systemOfModel m) ≡ true) × (now path ≡ trailStates (systemOfModel m))
         ⌝ }
     ensures { λ r. ⌜ (r ≡ length (ourEvidence m)) × (now (out .exit) ≡ evidenceIn m (now (out .entry))) ⌝ }
@@ -67,13 +64,13 @@ fn write_trail(
         first,
         targets,
         path,
-        far,
+        level,
         queue,
         walk,
         &mut out[..0],
     );
     if need <= out.len() {
-        put_trail(m, table, first, targets, path, far, queue, walk, out);
+        put_trail(m, table, first, targets, path, level, queue, walk, out);
     }
     need
 }

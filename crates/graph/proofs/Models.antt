@@ -34,12 +34,12 @@ module _ (m : Model) (ok : Lawful m) where
 
   -- the marked numbers are the marked states
   pub marked-law : (p : ℕ) → p < states m
-      → marked.Marked (systemOfModel m) p ↔ Marked (automatonOf m) (locationOf (automatonOf m) p) (regionOf (automatonOf m) p)
+      → marked.MarkedIn (systemOfModel m) p ↔ Marked (automatonOf m) (locationOf (automatonOf m) p) (regionOf (automatonOf m) p)
   marked-law = state-marked.marked-law (automatonOf m) (m .locations) (within m ok) (capped m ok)
 
   -- each marked state is allowed, in a location, and its number is marked
   pub marked-numbers : {l : ℕ} {xs : Region} → Marked (automatonOf m) l xs
-      → (l < m .locations) × Allowed (automatonOf m) l xs × marked.Marked (systemOfModel m) (numberOf (automatonOf m) l xs)
+      → (l < m .locations) × Allowed (automatonOf m) l xs × marked.MarkedIn (systemOfModel m) (numberOf (automatonOf m) l xs)
   marked-numbers = state-marked.marked-numbers (automatonOf m) (m .locations) (within m ok) (capped m ok)
 
   -- the verdict: unsafe just if a marked state is in a forbidden location, safe just if none is

@@ -1,21 +1,23 @@
 -- The automaton of a lawful model keeps what the theory asks: limits within the ceiling and guards and resets,
 -- one for each clock, and edges between locations.
-use Prim.Native.Nat.{ℕ, zero, suc, _/_, _≤_}
+use Prim.Native.Nat.{ℕ, zero, suc, _*_, _/_, _≤_, _<_}
 use native.Mathlib.Omega.{arith}
-use mathlib.Core.Path.{_≡_, refl, ap}
+use mathlib.Core.Path.{_≡_, refl, ap, _∙_}
 use mathlib.Core.List.{List, map, List·Memᴰ}
-use lib.ListN.{length, getD, replicate}
+use lib.ListN.{length, getD, replicate, length-map}
 use Rattle.theory.specs.Below.{tab}
 use Rattle.theory.specs.Lists.{from}
 use Rattle.theory.specs.Pointwise.{Each}
 use Rattle.theory.specs.Automaton.{Edge, Capped, Shaped}
-use Rattle.theory.specs.StateGraph.{Within}
+use Rattle.theory.specs.StateGraph.{Within, regionCount, systemOf, labelledOf}
 use Rattle.theory.proofs.Below.{tab-length}
-use Rattle.theory.proofs.Lists.{map-law}
+use Rattle.theory.proofs.First.{some-region, start-number}
+use Rattle.theory.proofs.Lists.{map-law, from-length}
 use Rattle.region.specs.View.{maskBits}
 use Rattle.model.specs.declared.Model.{Model}
 use Rattle.model.specs.Model.{slot, Lawful}
-use Rattle.graph.specs.Plan.{edgeOf, automatonOf}
+use Rattle.graph.specs.Plan.{edgeOf, automatonOf, systemOfModel, labelledOfModel}
+use Rattle.graph.specs.States.{states}
 
 tab-capped : (n c : ℕ) (f : ℕ → ℕ) → ((x : ℕ) → f x ≤ c) → Each (λ x d. x ≤ d) (tab n f) (replicate n c)
 unfolding tab
@@ -25,6 +27,29 @@ tab-capped (suc n) c f h = Each.more (h 0) (tab-capped n c (λ x. f (suc x)) (λ
 bits-length : (n r : ℕ) → length (maskBits n r) ≡ n
 bits-length zero r = refl
 bits-length (suc n) r = ap suc (bits-length n (r / 2))
+
+module _ (m : Model) where
+  pub edges-length : length (automatonOf m .edges) ≡ m .edges
+  unfolding automatonOf
+  edges-length = length-map (from 0 (m .edges)) (edgeOf m) ∙ from-length 0 (m .edges)
+
+  -- the start is the first state of its location
+  pub start-at : systemOfModel m .start ≡ m .start * regionCount (automatonOf m)
+  unfolding systemOf automatonOf
+  start-at = start-number (automatonOf m) (m .start)
+
+  pub size-states : systemOfModel m .size ≡ states m
+  unfolding systemOf
+  size-states = refl
+
+  pub some-regions : 0 < regionCount (automatonOf m)
+  unfolding regionCount
+  some-regions = some-region (m .clocks) (m .ceiling)
+
+  -- time, and a jump along each edge
+  pub labels-are : labelledOfModel m .labels ≡ suc (m .edges)
+  unfolding labelledOf
+  labels-are = ap suc edges-length
 
 module _ (m : Model) (ok : Lawful m) where
   pub capped : Capped (automatonOf m)

@@ -14,8 +14,8 @@ use Rattle.theory.specs.Adjacency.{Chain, end, slot, Chains}
 use Rattle.search.specs.Queue.{Takes, TakesAll, Covers}
 use Rattle.search.proofs.Queue.{takes-reached}
 use Rattle.marking.specs.Tables.{RegionTables}
-use Rattle.marking.specs.Corners.{AtPoint, Notes, Ready}
-use Rattle.marking.proofs.Parts.{corner-at}
+use Rattle.marking.specs.Corners.{AtPoint, Visits, Ready}
+use Rattle.shapes.proofs.Parts.{corner-at}
 
 -- ---- chains
 
@@ -119,45 +119,45 @@ module _ {S R : ℕ} {shapes heights : List ℕ} (T : RegionTables S R shapes he
 
 module _ {R : ℕ} {corner heights : List ℕ} (l v : ℕ) (b : v < pointCount) where
   -- a flag that is set
-  pub flag-old : {noted level : List ℕ} → Notes R corner heights noted level → 0 < getD noted (l * pointCount + v) 0
+  pub flag-old : {visited level : List ℕ} → Visits R corner heights visited level → 0 < getD visited (l * pointCount + v) 0
       → Covers (AtPoint corner heights (l * R) v) level
   flag-old N k = rw (pair-left l pointCount v b, pair-right l pointCount v b) at (N .covers (l * pointCount + v) k)
 
   -- a flag that is set now
-  pub flag-new : {noted level level′ queue queue′ : List ℕ} {x n n′ : ℕ} → Notes R corner heights noted level
+  pub flag-new : {visited level level′ queue queue′ : List ℕ} {x n n′ : ℕ} → Visits R corner heights visited level
       → TakesAll x (AtPoint corner heights (l * R) v) level level′ queue queue′ n n′
-      → Notes R corner heights (set noted (l * pointCount + v) 1) level′
-  flag-new {noted} {level} {level′} N A = record { covers = λ k i q a. by k i q a (ℕ-discrete k (l * pointCount + v)) }
+      → Visits R corner heights (set visited (l * pointCount + v) 1) level′
+  flag-new {visited} {level} {level′} N A = record { covers = λ k i q a. by k i q a (ℕ-discrete k (l * pointCount + v)) }
     where
-      by : (k : ℕ) → 0 < getD (set noted (l * pointCount + v) 1) k 0 → (q : ℕ)
+      by : (k : ℕ) → 0 < getD (set visited (l * pointCount + v) 1) k 0 → (q : ℕ)
           → AtPoint corner heights (k / pointCount * R) (k % pointCount) q → Dec (k ≡ l * pointCount + v) → 0 < getD level′ q 0
       by k i q a (yes e) = A .covers q (rw (e, pair-left l pointCount v b, pair-right l pointCount v b) at a)
-      by k i q a (no e) = takes-reached (A .takes) q (N .covers k (rw (getD-set-other noted (l * pointCount + v) k 1 0 e) at i) q a)
+      by k i q a (no e) = takes-reached (A .takes) q (N .covers k (rw (getD-set-other visited (l * pointCount + v) k 1 0 e) at i) q a)
 
 -- more is reached
-pub notes-more : {R : ℕ} {corner heights noted level level′ queue queue′ : List ℕ} {x n n′ : ℕ} {T : ℕ → Type 0}
-    → Notes R corner heights noted level → Takes x T level level′ queue queue′ n n′ → Notes R corner heights noted level′
-notes-more N A = record { covers = λ k h q a. takes-reached A q (N .covers k h q a) }
+pub visits-more : {R : ℕ} {corner heights visited level level′ queue queue′ : List ℕ} {x n n′ : ℕ} {T : ℕ → Type 0}
+    → Visits R corner heights visited level → Takes x T level level′ queue queue′ n n′ → Visits R corner heights visited level′
+visits-more N A = record { covers = λ k h q a. takes-reached A q (N .covers k h q a) }
 
 -- ---- before and after states are taken in
 
-module _ {R x : ℕ} {shapes heights noted level queue : List ℕ} {n : ℕ} (D : Ready R x shapes heights noted level queue n) where
+module _ {R x : ℕ} {shapes heights visited level queue : List ℕ} {n : ℕ} (D : Ready R x shapes heights visited level queue n) where
   -- the flag of a location and a point
-  pub flag-below : (l v : ℕ) → l * R < length level → v < pointCount → l * pointCount + v < length noted
+  pub flag-below : (l v : ℕ) → l * R < length level → v < pointCount → l * pointCount + v < length visited
   flag-below l v b c =
       omega (arith, D .spots .spots, mul-le-mul-right pointCount (part-of l R (length level) (D .spots .locations) (D .spots .states) b))
 
-  pub ready-next : {noted′ level′ queue′ : List ℕ} {n′ : ℕ} {T : ℕ → Type 0} → length noted′ ≡ length noted
-      → Takes x T level level′ queue queue′ n n′ → Notes R (cornersIn R shapes) heights noted′ level′
-      → Ready R x shapes heights noted′ level′ queue′ n′
+  pub ready-next : {visited′ level′ queue′ : List ℕ} {n′ : ℕ} {T : ℕ → Type 0} → length visited′ ≡ length visited
+      → Takes x T level level′ queue queue′ n n′ → Visits R (cornersIn R shapes) heights visited′ level′
+      → Ready R x shapes heights visited′ level′ queue′ n′
   ready-next e A N = record {
     small = D .small;
     tables = rw (A .long) (D .tables);
     spots = rw (A .long, e) (D .spots);
-    notes = N;
+    visits = N;
     fits = A .fits;
   }
 
   pub ready-more : {level′ queue′ : List ℕ} {n′ : ℕ} {T : ℕ → Type 0} → Takes x T level level′ queue queue′ n n′
-      → Ready R x shapes heights noted level′ queue′ n′
-  ready-more A = ready-next refl A (notes-more (D .notes) A)
+      → Ready R x shapes heights visited level′ queue′ n′
+  ready-more A = ready-next refl A (visits-more (D .visits) A)

@@ -10,17 +10,17 @@ use lib.ListN.{getD}
 use Rattle.limits.specs.Limits.{slotCount}
 use Rattle.shapes.specs.Layout.{rowsIn, facesIn, cornersIn}
 use Rattle.theory.specs.Adjacency.{Adjacent}
-use Rattle.search.specs.Queue.{TakesAll, Listed}
-use Rattle.search.proofs.Rows.{rows-below}
+use Rattle.search.specs.Queue.{TakesAll, InList}
+use Rattle.theory.proofs.Rows.{rows-below}
 use Rattle.search.proofs.Queue.{takes-then, takes-widen, takes-reached}
-use Rattle.marking.specs.Tables.{RegionTables, Leads, to-successor, to-face, to-touched}
+use Rattle.marking.specs.Tables.{RegionTables, Successor, to-successor, to-face, to-touched}
 use Rattle.marking.specs.Corners.{Touches}
-use Rattle.marking.proofs.Parts.{corners-long}
+use Rattle.shapes.proofs.Parts.{corners-long}
 use Rattle.marking.proofs.Corners.{pair-left, pair-right}
 
 -- the places of the faces of region i, for the states that begin at `base`
 abbrev pub FacesOf : ℕ → List ℕ → ℕ → ℕ → ℕ → Type 0
-FacesOf R shapes base i = Listed (facesIn R shapes) base (getD (rowsIn R shapes) i 0) (getD (rowsIn R shapes) (i + 1) 0)
+FacesOf R shapes base i = InList (facesIn R shapes) base (getD (rowsIn R shapes) i 0) (getD (rowsIn R shapes) (i + 1) 0)
 
 module _ {S R : ℕ} {shapes heights : List ℕ} (Z : RegionTables S R shapes heights) (p : ℕ) where
   pub region-below : p % R < R
@@ -30,7 +30,7 @@ module _ {S R : ℕ} {shapes heights : List ℕ} (Z : RegionTables S R shapes he
   location-below b = omega (arith, div-add-mod' p R)
 
   module _ {first targets : List ℕ} (q : ℕ) where
-    pub face-part : FacesOf R shapes (p / R * R) (p % R) q → Leads R first targets shapes heights p q
+    pub face-part : FacesOf R shapes (p / R * R) (p % R) q → Successor R first targets shapes heights p q
     face-part t =
         let h = rows-below (Z .faces .face) (p % R) (t .place) region-below (t .before) in
         to-face (rw (t .is) at (sym (pair-left (p / R) R (getD (facesIn R shapes) (t .place) 0) h)))
@@ -41,7 +41,7 @@ module _ {S R : ℕ} {shapes heights : List ℕ} (Z : RegionTables S R shapes he
           is = rw (t .is) at (sym (pair-right (p / R) R (getD (facesIn R shapes) (t .place) 0) h));
         })
 
-    pub touch-part : Touches (cornersIn R shapes) heights (p / R * R) (p % R) 0 q → Leads R first targets shapes heights p q
+    pub touch-part : Touches (cornersIn R shapes) heights (p / R * R) (p % R) 0 q → Successor R first targets shapes heights p q
     touch-part t =
         let a = t .is in
         let h : a .slot / slotCount < R = omega (arith, a .below, corners-long R shapes (Z .faces .long)) in
@@ -57,7 +57,7 @@ module _ {S R : ℕ} {shapes heights : List ℕ} (Z : RegionTables S R shapes he
         })
         (a .closed)
 
-    pub lead-parts : Leads R first targets shapes heights p q → Adjacent first targets p q
+    pub lead-parts : Successor R first targets shapes heights p q → Adjacent first targets p q
         ⊎ (FacesOf R shapes (p / R * R) (p % R) q ⊎ Touches (cornersIn R shapes) heights (p / R * R) (p % R) 0 q)
     lead-parts (to-successor t) = inl t
     lead-parts (to-face e t) =
@@ -88,7 +88,7 @@ module _ {S R : ℕ} {shapes heights : List ℕ} (Z : RegionTables S R shapes he
       → TakesAll x (Adjacent first targets p) f₀ f₁ o₀ o₁ n₀ n₁
       → TakesAll x (FacesOf R shapes (p / R * R) (p % R)) f₁ f₂ o₁ o₂ n₁ n₂
       → TakesAll x (Touches (cornersIn R shapes) heights (p / R * R) (p % R) 0) f₂ f₃ o₂ o₃ n₂ n₃
-      → TakesAll x (Leads R first targets shapes heights p) f₀ f₃ o₀ o₃ n₀ n₃
+      → TakesAll x (Successor R first targets shapes heights p) f₀ f₃ o₀ o₃ n₀ n₃
   leads-all A B D = record {
     takes = takes-then (takes-then (takes-widen (A .takes) (λ q t. to-successor t)) (takes-widen (B .takes) face-part))
         (takes-widen (D .takes) touch-part);

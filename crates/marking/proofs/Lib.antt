@@ -1,7 +1,5 @@
 -- Laws behind the functions' proofs.
 
--- The parts of the slice that holds the tables by region.
-pub mod Parts
 -- The slots of a chain hold a point; locations and their flags.
 pub mod Corners
 -- What a state leads to, part after part.

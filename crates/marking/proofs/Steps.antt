@@ -9,8 +9,8 @@ use lib.ListN.{length, getD}
 use lib.Dec.{ltb}
 use Rattle.theory.specs.Below.{count}
 use Rattle.theory.specs.System.{System, Laws, onClosedWalk}
-use Rattle.theory.specs.Marked.{Step, by-flow, by-face, by-touch, begin, step, marks}
-use Rattle.theory.specs.Levels.{far}
+use Rattle.theory.specs.Marked.{StepIn, by-flow, by-face, by-touch, begin, step, marks}
+use Rattle.theory.specs.Levels.{distanceTo}
 use Rattle.theory.proofs.Below.{and-intro, and-left, and-right}
 use Rattle.theory.proofs.System.{start-below, flow-inside, closed-walk-is, is-closed-walk}
 use Rattle.theory.proofs.Marked.{step-is, is-step, step-inside, marked-on, marked-allowed}
@@ -18,7 +18,7 @@ use Rattle.theory.proofs.Levels.{far-walk, mark-marks}
 use Rattle.search.specs.Queue.{reachedCount}
 use Rattle.search.proofs.Count.{count-same}
 use Rattle.search.proofs.Rounds.{searched-all, searched-marks}
-use Rattle.marking.specs.Tables.{Tables, RegionTables, Leads, to-successor, to-face, to-touched, Distances, Searched}
+use Rattle.marking.specs.Tables.{Tables, RegionTables, Successor, to-successor, to-face, to-touched, Distances, Found}
 use Rattle.marking.proofs.Corners.{location-states}
 use Rattle.marking.proofs.Leading.{location-below}
 use Rattle.search.specs.Rounds as rounds
@@ -31,7 +31,7 @@ module _ (Y : System) (L : Laws Y) {start R : ℕ} {first targets shapes heights
       let d : p / R * R + q % R ≡ q = rw e (div-add-mod' q R) in
       omega (arith, location-states Z (p / R) (location-below Z p b), mod-lt q (Z .some))
 
-  leads-step : (p q : ℕ) → Y .allowed p ≡ true → Leads R first targets shapes heights p q → step Y p q ≡ true
+  leads-step : (p q : ℕ) → Y .allowed p ≡ true → Successor R first targets shapes heights p q → step Y p q ≡ true
   leads-step p q a (to-successor t) = is-step Y L p q (by-flow (T .flow .edges p q (L .allowed-below p a) .0 t))
   leads-step p q a (to-face e t) =
       let b = L .allowed-below p a in
@@ -42,10 +42,10 @@ module _ (Y : System) (L : Laws Y) {start R : ℕ} {first targets shapes heights
       is-step Y L p q
       (by-touch (and-left (Y .near p q) (onClosedWalk Y q) both) (closed-walk-is Y L q (and-right (Y .near p q) (onClosedWalk Y q) both)))
 
-  step-leads : (p q : ℕ) → step Y p q ≡ true → Leads R first targets shapes heights p q
+  step-leads : (p q : ℕ) → step Y p q ≡ true → Successor R first targets shapes heights p q
   step-leads p q s = by (step-is Y L p q s)
     where
-      by : Step Y p q → Leads R first targets shapes heights p q
+      by : StepIn Y p q → Successor R first targets shapes heights p q
       by (by-flow e) = to-successor (T .flow .edges p q (flow-inside Y L p q e .0) .1 e)
       by (by-face e) = let (a, b, l, f) = T .face p q .0 e in to-face l (T .facing .edges (p % R) (q % R) (mod-lt p (Z .some)) .1 f)
       by (by-touch e w) =
@@ -55,12 +55,12 @@ module _ (Y : System) (L : Laws Y) {start R : ℕ} {first targets shapes heights
           to-touched l s h
 
   -- a state that steps lead to is marked, so it is allowed
-  far-allowed : (p : ℕ) → far (Y .size) (step Y) (Y .start) p < Y .size → Y .allowed p ≡ true
+  far-allowed : (p : ℕ) → distanceTo (Y .size) (step Y) (Y .start) p < Y .size → Y .allowed p ≡ true
   far-allowed p b =
       let (l, w, _) = far-walk (Y .size) (step Y) (step-inside Y L) (Y .start) (start-below Y L) p b in
       marked-allowed Y L (marked-on Y L begin w)
 
-  pub steps-agree : rounds.Agrees (Y .size) (step Y) start (Leads R first targets shapes heights)
+  pub steps-agree : rounds.Agrees (Y .size) (step Y) start (Successor R first targets shapes heights)
   steps-agree = rw (← T .starts) (record {
     inside = step-inside Y L;
     begins = start-below Y L;
@@ -75,14 +75,14 @@ count-marks Y L distance D =
 
 -- no state at x: all are found
 module _ {start R x lo hi : ℕ} {first targets shapes heights distance queue : List ℕ} (Z : RegionTables (length distance) R shapes heights)
-    (I : rounds.Searched (Leads R first targets shapes heights) start x lo hi distance queue) (over : hi ≤ lo) where
+    (I : rounds.Searched (Successor R first targets shapes heights) start x lo hi distance queue) (over : hi ≤ lo) where
   found : (Y : System) → Laws Y → Y .size ≡ length distance → Tables Y start R first targets shapes heights → Distances Y distance
   found Y L e T = record {
     long = sym e;
     is = rw (← e, ← T .starts) at (searched-marks I over (step Y) (rw (← e) (steps-agree Y L (rw (← e) at Z) T)));
   }
 
-  pub searched-end : Searched start R first targets shapes heights distance queue (x - 1)
+  pub searched-end : Found start R first targets shapes heights distance queue (x - 1)
   searched-end = record {
     order = rw (I .fits .many) (searched-all I over);
     distances = found;

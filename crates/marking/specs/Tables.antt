@@ -7,13 +7,12 @@ use Prim.Native.Nat.{ℕ, _*_, _/_, _%_, _≤_, _<_}
 use lib.ListN.{length, getD}
 use lib.Dec.{eqb}
 use Rattle.limits.specs.Limits.{maxRegions, maxStates, slotCount, pointCount}
-use Rattle.shapes.specs.Layout.{shapesEnd, rowsIn, facesIn, cornersIn, linksIn, headsIn}
+use Rattle.shapes.specs.Layout.{shapesEnd, rowsIn, facesIn, cornersIn, linksIn, headsIn, ShareCorner}
 use Rattle.theory.specs.Below.{count}
 use Rattle.theory.specs.System.{System, Laws, onClosedWalk}
 use Rattle.theory.specs.Marked.{step, marks}
-use Rattle.theory.specs.Adjacency.{Adjacent, Holds, ShareCorner, Chains}
+use Rattle.theory.specs.Adjacency.{Adjacent, Holds, Chains, Rows}
 use Rattle.theory.specs.Levels.{mark}
-use Rattle.search.specs.Rows.{Rows}
 use Rattle.search.specs.Queue.{reachedCount, ByLevel}
 
 -- ---- what the tables say of a system
@@ -52,7 +51,7 @@ pub record RegionTables (S R : ℕ) (shapes heights : List ℕ) : Type 0 where
   pub chains : Chains (cornersIn R shapes) (headsIn R shapes) (linksIn R shapes)
   pub heights-long : length heights ≡ S
 
-pub record Shape (S R : ℕ) (first targets shapes heights : List ℕ) : Type 0 where
+pub record SearchTables (S R : ℕ) (first targets shapes heights : List ℕ) : Type 0 where
   pub flow : Rows first targets S
   pub tables : RegionTables S R shapes heights
 
@@ -64,11 +63,11 @@ pub record Spots (S R flags : ℕ) : Type 0 where
 
 -- ---- what a state leads to, by the tables alone
 
-pub data Leads (R : ℕ) (first targets shapes heights : List ℕ) (p q : ℕ) : Type 0 where
-  to-successor : Adjacent first targets p q → Leads R first targets shapes heights p q
-  to-face : p / R ≡ q / R → Adjacent (rowsIn R shapes) (facesIn R shapes) (p % R) (q % R) → Leads R first targets shapes heights p q
+pub data Successor (R : ℕ) (first targets shapes heights : List ℕ) (p q : ℕ) : Type 0 where
+  to-successor : Adjacent first targets p q → Successor R first targets shapes heights p q
+  to-face : p / R ≡ q / R → Adjacent (rowsIn R shapes) (facesIn R shapes) (p % R) (q % R) → Successor R first targets shapes heights p q
   to-touched : p / R ≡ q / R → ShareCorner (cornersIn R shapes) (p % R) (q % R) → getD heights q 0 % 2 ≡ 1
-      → Leads R first targets shapes heights p q
+      → Successor R first targets shapes heights p q
 
 -- ---- what the search finds
 
@@ -78,7 +77,7 @@ pub record Distances (Y : System) (distance : List ℕ) : Type 0 where
   pub is : (p : ℕ) → p < Y .size → getD distance p 0 ≡ mark (Y .size) (step Y) (Y .start) p
 
 -- of every system that the tables tell of: its distances, in so many rounds; and `queue` lists the marked states level by level, each once
-pub record Searched (start R : ℕ) (first targets shapes heights distance queue : List ℕ) (rounds : ℕ) : Type 0 where
+pub record Found (start R : ℕ) (first targets shapes heights distance queue : List ℕ) (rounds : ℕ) : Type 0 where
   pub order : ByLevel distance queue (reachedCount distance)
   pub distances : (Y : System) → Laws Y → Y .size ≡ length distance → Tables Y start R first targets shapes heights → Distances Y distance
   pub few : (Y : System) → Laws Y → Y .size ≡ length distance → Tables Y start R first targets shapes heights → rounds ≤ count (Y .size) (marks Y)

@@ -3,12 +3,14 @@
 ghost use mathlib.Core.Path.{_≡_};
 ghost use Prim.Native.Nat.{ℕ, _≤_, _<_};
 ghost use lib.ListN.{length, getD};
-ghost use Rattle.search.specs.Rows.{Rows};
+ghost use Rattle.theory.specs.Adjacency.{Rows};
 ghost use Rattle.search.specs.Queue.{LeadsFrom};
-ghost use Rattle.marking.specs.Tables.{Shape, Spots, Leads, Searched};
-ghost use Rattle.marking.specs.Corners.{Ready, TakesNoted};
+ghost use Rattle.marking.specs.Tables.{SearchTables, Spots, Successor, Found};
+ghost use Rattle.marking.specs.Corners.{Ready, TakesVisited};
 use limits::Word;
 use limits::cast::from_word;
+use limits::zero::clear;
+use limits::zero::clear_bytes;
 
 mod reach;
 mod tally;
@@ -26,19 +28,19 @@ fn round(
     heights: &[Word],
     distance: &mut [Word],
     queue: &mut [Word],
-    noted: &mut [u8],
+    visited: &mut [u8],
     x: Word,
     lo: usize,
     hi: usize,
 ) -> usize
     requires { ⌜
         (lo ≤ hi) × Rows (now first) (now targets) (length (now distance))
-        × Ready regions x (now shapes) (now heights) (now noted) (now distance) (now queue) hi
+        × Ready regions x (now shapes) (now heights) (now visited) (now distance) (now queue) hi
         ⌝ }
     ensures { λ r. ⌜
-        TakesNoted regions x
-        (LeadsFrom (Leads regions (now (first .entry)) (now (targets .entry)) (now (shapes .entry)) (now (heights .entry)))
-        (now (queue .entry)) lo hi) (now (shapes .entry)) (now (heights .entry)) (now (noted .exit))
+        TakesVisited regions x
+        (LeadsFrom (Successor regions (now (first .entry)) (now (targets .entry)) (now (shapes .entry)) (now (heights .entry)))
+        (now (queue .entry)) lo hi) (now (shapes .entry)) (now (heights .entry)) (now (visited .exit))
         (now (distance .entry)) (now (distance .exit)) (now (queue .entry)) (now (queue .exit)) hi r
         ⌝ }
 {
@@ -54,7 +56,7 @@ fn round(
             heights,
             distance,
             queue,
-            noted,
+            visited,
             x,
             p,
             n,
@@ -64,19 +66,8 @@ fn round(
     n
 }
 
-// All flags at 0.
-fn clear_noted(noted: &mut [u8])
-    ensures { λ _. ⌜ ((i : ℕ) → getD (now (noted .exit)) i 0 ≡ 0) ⌝ }
-{
-    let mut i = 0;
-    while i < noted.len() {
-        noted[i] = 0;
-        i += 1;
-    }
-}
-
-// Into `distance` the distance of every state from the start plus one, or 0 where no steps lead to it; the number of rounds. `queue` and `noted` may
-// hold anything; `queue` is left with the marked states, level by level. `noted` has a flag for each location and point: set once the states there
+// Into `distance` the distance of every state from the start plus one, or 0 where no steps lead to it; the number of rounds. `queue` and `visited` may
+// hold anything; `queue` is left with the marked states, level by level. `visited` has a flag for each location and point: set once the states there
 // are taken in.
 pub fn distances(
     start: usize,
@@ -87,20 +78,20 @@ pub fn distances(
     heights: &[Word],
     distance: &mut [Word],
     queue: &mut [Word],
-    noted: &mut [u8],
+    visited: &mut [u8],
 ) -> Word
     requires { ⌜
         (start < length (now distance)) × (length (now queue) ≡ length (now distance))
-        × Shape (length (now distance)) regions (now first) (now targets) (now shapes) (now heights)
-        × Spots (length (now distance)) regions (length (now noted))
+        × SearchTables (length (now distance)) regions (now first) (now targets) (now shapes) (now heights)
+        × Spots (length (now distance)) regions (length (now visited))
         ⌝ }
     ensures { λ r. ⌜
-        Searched start regions (now (first .entry)) (now (targets .entry)) (now (shapes .entry)) (now (heights .entry))
+        Found start regions (now (first .entry)) (now (targets .entry)) (now (shapes .entry)) (now (heights .entry))
         (now (distance .exit)) (now (queue .exit)) r
         ⌝ }
 {
-    search::clear(distance);
-    clear_noted(noted);
+    clear(distance);
+    clear_bytes(visited);
     distance[start] = 1;
     queue[0] = start as Word;
     let mut x: Word = 1;
@@ -115,7 +106,7 @@ pub fn distances(
             heights,
             distance,
             queue,
-            noted,
+            visited,
             x,
             lo,
             hi,

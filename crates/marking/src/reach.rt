@@ -5,10 +5,10 @@ ghost use Prim.Native.Nat.{ℕ, _+_, _*_, _%_, _≤_, _<_};
 ghost use lib.ListN.{length, getD};
 ghost use Rattle.limits.specs.Limits.{maxStates, slotCount, pointCount};
 ghost use Rattle.shapes.specs.Layout.{rowsIn, facesIn, cornersIn};
-ghost use Rattle.search.specs.Rows.{Rows};
-ghost use Rattle.search.specs.Queue.{Fits, TakesAll, Listed};
-ghost use Rattle.marking.specs.Tables.{Faces, RegionTables, Leads};
-ghost use Rattle.marking.specs.Corners.{AtPoint, Touches, Ready, TakesNoted};
+ghost use Rattle.theory.specs.Adjacency.{Rows};
+ghost use Rattle.search.specs.Queue.{Queued, TakesAll, InList};
+ghost use Rattle.marking.specs.Tables.{Faces, RegionTables, Successor};
+ghost use Rattle.marking.specs.Corners.{AtPoint, Touches, Ready, TakesVisited};
 use limits::POINTS;
 use limits::SLOTS;
 use limits::Word;
@@ -34,11 +34,11 @@ fn take_faces(
 ) -> usize
     requires { ⌜
         (x ≤ maxStates) × (location * regions + regions ≤ length (now distance)) × (i < regions)
-        × Faces regions (now shapes) × Fits (now distance) (now queue) n
+        × Faces regions (now shapes) × Queued (now distance) (now queue) n
         ⌝ }
     ensures { λ r. ⌜
         TakesAll x
-        (Listed (facesIn regions (now (shapes .entry))) (location * regions) (getD (rowsIn regions (now (shapes .entry))) i 0)
+        (InList (facesIn regions (now (shapes .entry))) (location * regions) (getD (rowsIn regions (now (shapes .entry))) i 0)
         (getD (rowsIn regions (now (shapes .entry))) (i + 1) 0))
         (now (distance .entry)) (now (distance .exit)) (now (queue .entry)) (now (queue .exit)) n r
         ⌝ }
@@ -70,7 +70,7 @@ fn take_closed(
 ) -> usize
     requires { ⌜
         (x ≤ maxStates) × (q < length (now distance)) × (length (now heights) ≡ length (now distance))
-        × Fits (now distance) (now queue) n
+        × Queued (now distance) (now queue) n
         ⌝ }
     ensures { λ r. ⌜
         TakesAll x (λ y. (y ≡ q) × (getD (now (heights .entry)) q 0 % 2 ≡ 1))
@@ -97,7 +97,7 @@ fn take_point(
 ) -> usize
     requires { ⌜
         (x ≤ maxStates) × (location * regions < length (now distance)) × (v < pointCount)
-        × RegionTables (length (now distance)) regions (now shapes) (now heights) × Fits (now distance) (now queue) n
+        × RegionTables (length (now distance)) regions (now shapes) (now heights) × Queued (now distance) (now queue) n
         ⌝ }
     ensures { λ r. ⌜
         TakesAll x (AtPoint (cornersIn regions (now (shapes .entry))) (now (heights .entry)) (location * regions) v)
@@ -117,12 +117,12 @@ fn take_point(
     end
 }
 
-// The same for the point of a slot, unless it is noted: its states were taken in before.
+// The same for the point of a slot, unless it is visited: its states were taken in before.
 fn take_corner(
     regions: usize,
     shapes: &[Word],
     heights: &[Word],
-    noted: &mut [u8],
+    visited: &mut [u8],
     distance: &mut [Word],
     queue: &mut [Word],
     x: Word,
@@ -132,19 +132,19 @@ fn take_corner(
 ) -> usize
     requires { ⌜
         (location * regions < length (now distance)) × (slot < slotCount * regions)
-        × Ready regions x (now shapes) (now heights) (now noted) (now distance) (now queue) n
+        × Ready regions x (now shapes) (now heights) (now visited) (now distance) (now queue) n
         ⌝ }
     ensures { λ r. ⌜
-        TakesNoted regions x (AtPoint (cornersIn regions (now (shapes .entry))) (now (heights .entry)) (location * regions)
-        (getD (cornersIn regions (now (shapes .entry))) slot 0)) (now (shapes .entry)) (now (heights .entry)) (now (noted .exit))
+        TakesVisited regions x (AtPoint (cornersIn regions (now (shapes .entry))) (now (heights .entry)) (location * regions)
+        (getD (cornersIn regions (now (shapes .entry))) slot 0)) (now (shapes .entry)) (now (heights .entry)) (now (visited .exit))
         (now (distance .entry)) (now (distance .exit)) (now (queue .entry)) (now (queue .exit)) n r
         ⌝ }
 {
     let corners = corners_at(regions);
     let v = from_word(shapes[corners + slot]);
     let spot = location * POINTS + v;
-    if noted[spot] == 0 {
-        noted[spot] = 1;
+    if visited[spot] == 0 {
+        visited[spot] = 1;
         return take_point(regions, shapes, heights, distance, queue, x, location, v, n);
     }
     n
@@ -155,7 +155,7 @@ fn take_corners(
     regions: usize,
     shapes: &[Word],
     heights: &[Word],
-    noted: &mut [u8],
+    visited: &mut [u8],
     distance: &mut [Word],
     queue: &mut [Word],
     x: Word,
@@ -165,11 +165,11 @@ fn take_corners(
 ) -> usize
     requires { ⌜
         (location * regions < length (now distance)) × (i < regions)
-        × Ready regions x (now shapes) (now heights) (now noted) (now distance) (now queue) n
+        × Ready regions x (now shapes) (now heights) (now visited) (now distance) (now queue) n
         ⌝ }
     ensures { λ r. ⌜
-        TakesNoted regions x (Touches (cornersIn regions (now (shapes .entry))) (now (heights .entry)) (location * regions) i 0)
-        (now (shapes .entry)) (now (heights .entry)) (now (noted .exit))
+        TakesVisited regions x (Touches (cornersIn regions (now (shapes .entry))) (now (heights .entry)) (location * regions) i 0)
+        (now (shapes .entry)) (now (heights .entry)) (now (visited .exit))
         (now (distance .entry)) (now (distance .exit)) (now (queue .entry)) (now (queue .exit)) n r
         ⌝ }
 {
@@ -181,7 +181,7 @@ fn take_corners(
             regions,
             shapes,
             heights,
-            noted,
+            visited,
             distance,
             queue,
             x,
@@ -203,19 +203,19 @@ pub fn spread(
     heights: &[Word],
     distance: &mut [Word],
     queue: &mut [Word],
-    noted: &mut [u8],
+    visited: &mut [u8],
     x: Word,
     p: usize,
     n: usize,
 ) -> usize
     requires { ⌜
         (p < length (now distance)) × Rows (now first) (now targets) (length (now distance))
-        × Ready regions x (now shapes) (now heights) (now noted) (now distance) (now queue) n
+        × Ready regions x (now shapes) (now heights) (now visited) (now distance) (now queue) n
         ⌝ }
     ensures { λ r. ⌜
-        TakesNoted regions x
-        (Leads regions (now (first .entry)) (now (targets .entry)) (now (shapes .entry)) (now (heights .entry)) p)
-        (now (shapes .entry)) (now (heights .entry)) (now (noted .exit))
+        TakesVisited regions x
+        (Successor regions (now (first .entry)) (now (targets .entry)) (now (shapes .entry)) (now (heights .entry)) p)
+        (now (shapes .entry)) (now (heights .entry)) (now (visited .exit))
         (now (distance .entry)) (now (distance .exit)) (now (queue .entry)) (now (queue .exit)) n r
         ⌝ }
 {
@@ -227,7 +227,7 @@ pub fn spread(
         regions,
         shapes,
         heights,
-        noted,
+        visited,
         distance,
         queue,
         x,

@@ -4,7 +4,7 @@
 
 ghost use mathlib.Core.Path.{_≡_};
 ghost use lib.ListN.{length};
-ghost use Rattle.search.specs.Rows.{Rows};
+ghost use Rattle.theory.specs.Adjacency.{Rows};
 use libc::STDOUT_FILENO;
 use limits::POINTS;
 use limits::Word;
@@ -37,7 +37,7 @@ fn case(first: &[u32], targets: &[Word], heights: &[Word])
     let kind = [0u8, 1];
     let mut distance: [Word; 6] = [7; 6];
     let mut queue: [Word; 6] = [7; 6];
-    let mut noted = [7u8; SPOTS];
+    let mut visited = [7u8; SPOTS];
     let rounds = marking::distances(
         0,
         REGIONS,
@@ -47,7 +47,7 @@ fn case(first: &[u32], targets: &[Word], heights: &[Word])
         heights,
         &mut distance,
         &mut queue,
-        &mut noted,
+        &mut visited,
     );
     show_each(&distance);
     show(rounds as usize, b' ');

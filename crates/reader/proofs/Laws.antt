@@ -13,7 +13,7 @@ use Rattle.number.specs.Answer.{Answer}
 use Rattle.number.proofs.Laws.{read-value, read-short, read-long}
 use Rattle.number.proofs.Sequence.{value-within}
 use Rattle.reader.specs.declared.Reader.{Reader}
-use Rattle.reader.specs.Reader.{afterNumber, nextNumber, told, nextAnswer, advanced}
+use Rattle.reader.specs.Reader.{afterNumber, nextNumber, numberAnswer, nextAnswer, advanced}
 
 module _ (bs : List ℕ) (at : ℕ) where
   pub after-value : (v to : ℕ) → readNumber bs at ≡ Value v to → afterNumber bs at ≡ to
@@ -48,13 +48,13 @@ module _ (r : Reader) where
   -- 0 and a value just where the bytes from here on begin with a spelling of it
   pub answer-value : (v : ℕ) → (nextAnswer r ≡ record { number = 0; values = v ∷ [] })
       ↔ ((g : List ℕ) × (rest : List ℕ) × (drop (r .at) (now (r .bytes)) ≡ g ++ rest) × Spells g v)
-  unfolding told
+  unfolding numberAnswer
   answer-value v = (
     λ e. by (nextNumber r) refl e,
-    λ (g, rest, e, s). ap told (read-value (now (r .bytes)) (r .at) v (r .at + length g) .1 (g, rest, e, s, refl)),
+    λ (g, rest, e, s). ap numberAnswer (read-value (now (r .bytes)) (r .at) v (r .at + length g) .1 (g, rest, e, s, refl)),
   )
     where
-      by : (n : Number) → nextNumber r ≡ n → told n ≡ record { number = 0; values = v ∷ [] }
+      by : (n : Number) → nextNumber r ≡ n → numberAnswer n ≡ record { number = 0; values = v ∷ [] }
           → (g : List ℕ) × (rest : List ℕ) × (drop (r .at) (now (r .bytes)) ≡ g ++ rest) × Spells g v
       by (Value w to) e t =
           let same : w ≡ v = ap (λ (a : Answer). getD (a .values) 0 0) t in
@@ -63,18 +63,18 @@ module _ (r : Reader) where
       by (Refused x) e t = absurd (omega (arith, ap (λ (a : Answer). length (a .values)) t))
 
   refused-by : (x : ℕ) → nextAnswer r ≡ record { number = x; values = [] } → nextNumber r ≡ Refused x
-  unfolding told
+  unfolding numberAnswer
   refused-by x e = by (nextNumber r) refl e
     where
-      by : (n : Number) → nextNumber r ≡ n → told n ≡ record { number = x; values = [] } → n ≡ Refused x
+      by : (n : Number) → nextNumber r ≡ n → numberAnswer n ≡ record { number = x; values = [] } → n ≡ Refused x
       by (Value w to) d t = absurd (let z : _≡_ {A = ℕ} 1 0 = ap (λ (a : Answer). length (a .values)) t in omega arith)
       by (Refused y) d t = ap Refused (ap (λ (a : Answer). a .number) t)
 
   -- 1 just where they end too soon, 2 just where the third byte of a number has its top bit set
   pub answer-short : (nextAnswer r ≡ record { number = 1; values = [] }) ↔ EndsTooSoon (now (r .bytes)) (r .at)
-  unfolding told
-  answer-short = (λ e. read-short (now (r .bytes)) (r .at) .0 (refused-by 1 e), λ s. ap told (read-short (now (r .bytes)) (r .at) .1 s))
+  unfolding numberAnswer
+  answer-short = (λ e. read-short (now (r .bytes)) (r .at) .0 (refused-by 1 e), λ s. ap numberAnswer (read-short (now (r .bytes)) (r .at) .1 s))
 
   pub answer-long : (nextAnswer r ≡ record { number = 2; values = [] }) ↔ ThirdTopBit (now (r .bytes)) (r .at)
-  unfolding told
-  answer-long = (λ e. read-long (now (r .bytes)) (r .at) .0 (refused-by 2 e), λ s. ap told (read-long (now (r .bytes)) (r .at) .1 s))
+  unfolding numberAnswer
+  answer-long = (λ e. read-long (now (r .bytes)) (r .at) .0 (refused-by 2 e), λ s. ap numberAnswer (read-long (now (r .bytes)) (r .at) .1 s))

@@ -18,13 +18,13 @@ abbrev pub nextNumber : Reader → Number
 nextNumber r = readNumber (now (r .bytes)) (r .at)
 
 -- 01's number and values for each case; the offset in a value is the reader's own
-unfoldable pub told : Number → Answer
-told (Value v to) = record { number = 0; values = v ∷ [] }
-told (Refused r) = record { number = r; values = [] }
+unfoldable pub numberAnswer : Number → Answer
+numberAnswer (Value v to) = record { number = 0; values = v ∷ [] }
+numberAnswer (Refused r) = record { number = r; values = [] }
 
 -- "the reader's is the number", or "1 or 2"
 abbrev pub nextAnswer : Reader → Answer
-nextAnswer r = told (nextNumber r)
+nextAnswer r = numberAnswer (nextNumber r)
 
 -- the reader once that number is given
 abbrev pub advanced : Reader → Reader

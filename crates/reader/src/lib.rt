@@ -2,7 +2,7 @@
 // A function over a struct that holds a slice is proved by hand; so `next` leaves the work to functions of the slice and the offset.
 use number::Number;
 ghost use mathlib.Core.Path.{_≡_};
-ghost use Rattle.reader.specs.Reader.{afterNumber, nextNumber, told, nextAnswer, advanced};
+ghost use Rattle.reader.specs.Reader.{afterNumber, nextNumber, numberAnswer, nextAnswer, advanced};
 
 // The evidence, and where the next number begins.
 pub struct Reader<'a> {
@@ -27,9 +27,9 @@ pub fn new<'a>(bytes: &'a [u8]) -> Reader<'a>
     Reader { bytes, at: 0 }
 }
 
-// The next number, or its refusal: 01's answer by `told`, with the offset after a number in the enum itself.
+// The next number, or its refusal: 01's answer by `numberAnswer`, with the offset after a number in the enum itself.
 pub fn next<'s, 'a>(r: &'s mut Reader<'a>) -> Number
-    ensures { λ n. ⌜ (told n ≡ nextAnswer (now (r .entry))) × (n ≡ nextNumber (now (r .entry))) × (now (r .exit) ≡ advanced (now (r .entry))) ⌝ }
+    ensures { λ n. ⌜ (numberAnswer n ≡ nextAnswer (now (r .entry))) × (n ≡ nextNumber (now (r .entry))) × (now (r .exit) ≡ advanced (now (r .entry))) ⌝ }
 {
     let bytes = r.bytes;
     let at = r.at;

@@ -5,8 +5,8 @@ use mathlib.Core.Logic.{_↔_}
 use mathlib.Core.List.{List, []}
 use Prim.Native.Nat.{ℕ, _+_, _-_, _*_, _<_}
 use lib.ListN.{length, getD}
+use Rattle.shapes.specs.Layout.{ShareCorner}
 use Rattle.theory.specs.Region.{Clock, regions, shares}
-use Rattle.theory.specs.Adjacency.{ShareCorner}
 use Rattle.region.specs.Corners.{codeAt}
 use Rattle.region.specs.declared.Region.{Region}
 use Rattle.limits.specs.Limits.{slotCount, pointCount}

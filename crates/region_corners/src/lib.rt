@@ -13,7 +13,6 @@ ghost use Rattle.region.specs.Limits.{Clocks, Ceiling};
 ghost use Rattle.region_table.specs.Table.{packedRegions};
 ghost use Rattle.region_steps.specs.Tables.{Indexed};
 ghost use Rattle.region_corners.specs.Shapes.{Shapes};
-pub use chains::fill_chains;
 pub use chains::link_corners;
 use corners::fill_corners;
 use faces::fill_faces;

@@ -6,4 +6,3 @@ pub mod Gaps
 pub mod Selection
 pub mod Counts
 pub mod Listed
-pub mod First

@@ -20,7 +20,7 @@ use Rattle.model.specs.declared.Model.{Model}
 use Rattle.model.specs.Model.{Lawful}
 use Rattle.graph.specs.Plan.{automatonOf, systemOfModel, labelledOfModel}
 use Rattle.graph.proofs.Models.{labelled-laws}
-use Rattle.replay.specs.Spelling.{movesNumbers, trailNumbers, TrailPasses}
+use Rattle.replay.specs.Spelling.{movesNumbers, trailNumbers, RestPasses}
 use Rattle.replay.specs.Trail.{run, trailStep, trailAnswer}
 use Rattle.replay.proofs.Ways.{number-ind, reached-ind, Refusal, read-refusal, not-zero, told-at, told-refused}
 use Rattle.replay.proofs.Replays.{steps-told, is-steps}
@@ -30,12 +30,12 @@ use Rattle.theory.proofs.Replay as theory
 module _ (m : Model) (bs : List ℕ) (at : ℕ) where
   -- 01: "Evidence passes when its bytes spell, with nothing after, ... a trail whose steps all replay and which ends in a forbidden location.
   -- ... the check returns 0 exactly then."
-  pub passes-law : (trailAnswer m bs at ≡ 0) ↔ TrailPasses m (drop at bs)
+  pub passes-law : (trailAnswer m bs at ≡ 0) ↔ RestPasses m (drop at bs)
   unfolding trailAnswer trailNumbers labelledOf
   passes-law = (to, from)
     where
       Then : ℕ → Type 0
-      Then n = n ≡ 0 → TrailPasses m (drop at bs)
+      Then n = n ≡ 0 → RestPasses m (drop at bs)
 
       to : Then (trailAnswer m bs at)
       to =
@@ -53,7 +53,7 @@ module _ (m : Model) (bs : List ℕ) (at : ℕ) where
           (λ r w h. absurd (not-zero r (told-refused (steps-told m bs k (systemOfModel m .start) to) w) h)))
           (λ r e h. absurd (not-zero r (read-refusal bs at r e) h))
 
-      from : TrailPasses m (drop at bs) → trailAnswer m bs at ≡ 0
+      from : RestPasses m (drop at bs) → trailAnswer m bs at ≡ 0
       from (vs, s, (q, u, f)) =
           let b = spelled-some s in
           let r = reads-law bs at (trailNumbers (automatonOf m) vs) (omega (arith, length-drop at bs)) .1 s in

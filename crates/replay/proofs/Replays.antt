@@ -20,7 +20,8 @@ use Rattle.theory.proofs.Labels.{opens↔}
 use Rattle.theory.proofs.StateGraph.{region-of-number, region-lawful, number-of-parts, allowed-state-law}
 use Rattle.evidence_number.specs.Evidence.{readEvidence}
 use Rattle.evidence_number.proofs.Reading.{Reads, none, more, reads-append, reads-split, reads-first, reads-end}
-use Rattle.trail_numbers.specs.Numbers.{labelAt, got, numbersAt}
+use Rattle.evidence_number.specs.Numbers.{got}
+use Rattle.trail_numbers.specs.Numbers.{labelAt, numbersAt}
 use Rattle.model.specs.declared.Model.{Model}
 use Rattle.model.specs.Model.{Lawful}
 use Rattle.graph.specs.Plan.{automatonOf, systemOfModel, labelledOfModel}

@@ -4,10 +4,9 @@ use native.Mathlib.Omega.{arith}
 use mathlib.Core.Path.{_≡_, refl, sym, ap, _∙_}
 use mathlib.Core.Bool.{Bool, true, false, cond}
 use mathlib.Core.List.{List}
-use lib.ListN.{length, getD, length-map, replicate}
+use lib.ListN.{length, getD, replicate}
 use lib.Dec.{ltb, eqb}
 use borrow.Author.Tests.{ne-eqb, lt-ltb, le-ltb}
-use Rattle.theory.specs.Lists.{from}
 use Rattle.theory.specs.Region.{Clock, clocks, lawful}
 use Rattle.theory.specs.RegionGraph.{point, origin}
 use Rattle.theory.specs.Labels.{opens}
@@ -20,18 +19,19 @@ use Rattle.number.specs.Number.{onNumber}
 use Rattle.evidence_number.specs.Evidence.{readEvidence}
 use Rattle.trail_numbers.specs.declared.Step.{Step}
 use Rattle.trail_numbers.specs.declared.Reading.{Reading}
-use Rattle.trail_numbers.specs.Numbers.{Numbers, got, refused, onNumbers, numbersAt}
+use Rattle.evidence_number.specs.Numbers.{Numbers, got, refused, onNumbers}
+use Rattle.trail_numbers.specs.Numbers.{numbersAt}
 use Rattle.trail_numbers.specs.Steps.{threeOf, onThree, regionStep, keptRegion, regionAt, jumpAt, kindAt, stepAt, onReading}
 use Rattle.region.specs.declared.Region.{Region}
 use Rattle.region.specs.View.{view, structOf, Known}
 use Rattle.region.proofs.Views.{three as clock-cases}
 use Rattle.model.specs.declared.Model.{Model}
 use Rattle.model.specs.Model.{Lawful}
-use Rattle.graph.specs.Plan.{edgeOf, automatonOf, systemOfModel}
+use Rattle.graph.specs.Plan.{automatonOf, systemOfModel}
 use Rattle.graph.specs.States.{states, nextOf}
 use Rattle.graph.specs.declared.Next.{Next}
 use Rattle.graph.specs.declared.Next.the-variants.{To, Nothing}
-use Rattle.graph.proofs.Plan.{capped}
+use Rattle.graph.proofs.Plan.{capped, edges-length}
 use Rattle.graph.proofs.States.{clocks-of, ceiling-of}
 use Rattle.graph.proofs.Models.{system-laws}
 use Rattle.replay.specs.declared.Reached.{Reached}
@@ -46,15 +46,7 @@ use Rattle.trail_numbers.specs.declared.Reading.the-variants as reading
 
 -- ---- time and jump
 
-from-length : (k c : ℕ) → length (from k c) ≡ c
-from-length k zero = refl
-from-length k (suc c) = ap suc (from-length (suc k) c)
-
 module _ (m : Model) where
-  edges-length : length (automatonOf m .edges) ≡ m .edges
-  unfolding automatonOf
-  edges-length = length-map (from 0 (m .edges)) (edgeOf m) ∙ from-length 0 (m .edges)
-
   module _ (s at : ℕ) where
     goes : (b : Bool) (q : ℕ) → goTo (cond b (To q) Nothing) at ≡ cond b (At q at) (Refused 13)
     goes true q = refl
@@ -73,11 +65,11 @@ module _ (m : Model) where
     jump-goes e b n f =
         ap (λ o. goTo o at) f
         ∙ goes (ltb (jumpFrom (automatonOf m) (m .locations) e s) (states m)) (jumpFrom (automatonOf m) (m .locations) e s)
-        ∙ rw (lt-ltb (suc e) (suc (length (automatonOf m .edges))) (omega (arith, edges-length))) refl
+        ∙ rw (lt-ltb (suc e) (suc (length (automatonOf m .edges))) (omega (arith, edges-length m))) refl
 
     pub jump-nowhere : (e : ℕ) → m .edges ≤ e → Refused 13 ≡ flowTo m (suc e) s at
     unfolding flowTo opens labelledOf systemOf
-    jump-nowhere e b = rw (le-ltb (suc e) (suc (length (automatonOf m .edges))) (omega (arith, edges-length))) refl
+    jump-nowhere e b = rw (le-ltb (suc e) (suc (length (automatonOf m .edges))) (omega (arith, edges-length m))) refl
 
     -- the jump of a label that is not time
     pub label-goes : (x : ℕ) → (x ≡ 0 → ⊥) → flowTo m (suc (x - 1)) s at ≡ flowTo m x s at

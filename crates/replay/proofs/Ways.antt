@@ -9,7 +9,8 @@ use Rattle.number.specs.declared.Number.{Number}
 use Rattle.number.specs.Number.{onNumber}
 use Rattle.evidence_number.specs.Evidence.{readEvidence, NumberRefusal}
 use Rattle.evidence_number.proofs.Reading.{Reads, none, more, refused-within, refusal-positive}
-use Rattle.trail_numbers.specs.Numbers.{Numbers, got, refused, onNumbers, numbersAt}
+use Rattle.evidence_number.specs.Numbers.{Numbers, got, refused, onNumbers}
+use Rattle.trail_numbers.specs.Numbers.{numbersAt}
 use Rattle.replay.specs.declared.Reached.{Reached}
 use Rattle.replay.specs.declared.Reached.the-variants.{At, Refused}
 use Rattle.replay.specs.Trail.{onReached}

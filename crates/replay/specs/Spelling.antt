@@ -36,5 +36,5 @@ unfoldable pub trailNumbers : Automaton → List Move → List ℕ
 trailNumbers a vs = length vs ∷ movesNumbers a vs
 
 -- "its bytes spell, with nothing after, ... a trail whose steps all replay and which ends in a forbidden location": the bytes after the 2
-abbrev pub TrailPasses : Model → List ℕ → Type 0
-TrailPasses m bs = (vs : List Move) × SpellsEvidence bs (trailNumbers (automatonOf m) vs) × Passes (labelledOfModel m) vs
+abbrev pub RestPasses : Model → List ℕ → Type 0
+RestPasses m bs = (vs : List Move) × SpellsEvidence bs (trailNumbers (automatonOf m) vs) × Passes (labelledOfModel m) vs

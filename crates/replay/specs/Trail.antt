@@ -10,7 +10,8 @@ use Rattle.theory.specs.StateGraph.{locationOf, numberOf}
 use Rattle.theory.specs.Labels.{opens}
 use Rattle.number.specs.Number.{onNumber}
 use Rattle.evidence_number.specs.Evidence.{readEvidence}
-use Rattle.trail_numbers.specs.Numbers.{labelAt, onNumbers, numbersAt}
+use Rattle.evidence_number.specs.Numbers.{onNumbers}
+use Rattle.trail_numbers.specs.Numbers.{labelAt, numbersAt}
 use Rattle.model.specs.declared.Model.{Model}
 use Rattle.graph.specs.Plan.{automatonOf, systemOfModel, labelledOfModel}
 use Rattle.replay.specs.declared.Reached.{Reached}

@@ -10,7 +10,7 @@ use lib.ListN.{length, getD, set, length-set, List·getD-eq-default}
 use lib.Seq.{getD-set-same, getD-set-other, ext-getD}
 use Rattle.limits.specs.Limits.{levelFlag}
 use Rattle.theory.specs.Walk.{dist}
-use Rattle.theory.specs.Levels.{far}
+use Rattle.theory.specs.Levels.{distanceTo}
 use Rattle.theory.specs.Guide.{good}
 use Rattle.theory.proofs.Below.{either}
 use Rattle.theory.proofs.Guide.{good-le, good-last, good-next, good-back}
@@ -50,13 +50,13 @@ module _ {Lead : ℕ → ℕ → Type 0} {Goal : ℕ → Type 0} {start x : ℕ}
     abbrev S : ℕ
     S = length level₀
 
-    at : (s : ℕ) → s < S → far S r start s ≤ dist S r goal start → getD level₀ s 0 ≡ far S r start s + 1
+    at : (s : ℕ) → s < S → distanceTo S r start s ≤ dist S r goal start → getD level₀ s 0 ≡ distanceTo S r start s + 1
     at s b l = A .upto .near s b (omega (arith, A .last, A .beyond)) (omega (arith, A .short))
 
-    of : (s : ℕ) → s < S → 0 < getD level₀ s 0 → (getD level₀ s 0 ≡ far S r start s + 1) × (far S r start s < S)
-    of s b h = by (decLt (far S r start s) (A .bound)) (decLt (far S r start s) S)
+    of : (s : ℕ) → s < S → 0 < getD level₀ s 0 → (getD level₀ s 0 ≡ distanceTo S r start s + 1) × (distanceTo S r start s < S)
+    of s b h = by (decLt (distanceTo S r start s) (A .bound)) (decLt (distanceTo S r start s) S)
       where
-        by : Dec (far S r start s < A .bound) → Dec (far S r start s < S) → (getD level₀ s 0 ≡ far S r start s + 1) × (far S r start s < S)
+        by : Dec (distanceTo S r start s < A .bound) → Dec (distanceTo S r start s < S) → (getD level₀ s 0 ≡ distanceTo S r start s + 1) × (distanceTo S r start s < S)
         by (yes l) (yes k) = (A .upto .near s b l k, k)
         by (no l) _ = absurd (omega (arith, A .upto .rest s b (omega arith)))
         by (yes l) (no k) = absurd (omega (arith, A .upto .out s b (omega arith)))
@@ -85,7 +85,7 @@ module _ {Lead : ℕ → ℕ → Type 0} {Goal : ℕ → Type 0} {start x : ℕ}
         level-here : getD level (getD queue k 0) 0 ≡ getD level₀ (getD queue k 0) 0
         level-here = F .plain k (omega arith)
 
-        level-is : (getD level₀ (getD queue k 0) 0 ≡ far S r start (getD queue k 0) + 1) × (far S r start (getD queue k 0) < S)
+        level-is : (getD level₀ (getD queue k 0) 0 ≡ distanceTo S r start (getD queue k 0) + 1) × (distanceTo S r start (getD queue k 0) < S)
         level-is = of (getD queue k 0) below (O .fits .reached k here)
 
         tells : Ahead Lead Goal x level (getD queue k 0) → good S r goal start (getD queue k 0) ≡ true
@@ -97,12 +97,12 @@ module _ {Lead : ℕ → ℕ → Type 0} {Goal : ℕ → Type 0} {start x : ℕ}
             let b = A .agrees .inside (getD queue k 0) s u .1 in
             ⊎-elim (λ w. absurd (omega (arith, level-small O s b)))
             (λ (w, g).
-            let z : getD level₀ s 0 ≡ far S r start (getD queue k 0) + 1 + 1 = omega (arith, level-here, level-is .0) in
+            let z : getD level₀ s 0 ≡ distanceTo S r start (getD queue k 0) + 1 + 1 = omega (arith, level-here, level-is .0) in
             good-back S r (A .agrees .inside) goal start (A .agrees .begins) (getD queue k 0) s u (omega (arith, of s b (omega arith) .0)) g)
             (value s b)
 
         -- a state of the next level stands after this one
-        after : (s : ℕ) → s < S → far S r start s ≡ far S r start (getD queue k 0) + 1 → good S r goal start s ≡ true
+        after : (s : ℕ) → s < S → distanceTo S r start s ≡ distanceTo S r start (getD queue k 0) + 1 → good S r goal start s ≡ true
             → getD level s 0 ≡ getD level₀ s 0 + levelFlag
         after s b d g =
             let (j, l, u) = place s b g in
@@ -115,9 +115,9 @@ module _ {Lead : ℕ → ℕ → Type 0} {Goal : ℕ → Type 0} {start x : ℕ}
                 absurd (omega (arith, at s b (good-le S r goal start s g), level-is .0))
 
         told : good S r goal start (getD queue k 0) ≡ true → Ahead Lead Goal x level (getD queue k 0)
-        told g = by (decLt (far S r start (getD queue k 0)) (dist S r goal start))
+        told g = by (decLt (distanceTo S r start (getD queue k 0)) (dist S r goal start))
           where
-            by : Dec (far S r start (getD queue k 0) < dist S r goal start) → Ahead Lead Goal x level (getD queue k 0)
+            by : Dec (distanceTo S r start (getD queue k 0) < dist S r goal start) → Ahead Lead Goal x level (getD queue k 0)
             by (yes d) =
                 let (s, b, t, u, o) = good-next S r (A .agrees .inside) goal start (A .agrees .begins) (getD queue k 0) (level-is .1) g d in
                 before-last (omega (arith, level-here, level-is .0, A .last)) s (A .agrees .from (getD queue k 0) s t)

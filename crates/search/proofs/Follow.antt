@@ -10,7 +10,7 @@ use lib.Dec.{eqb}
 use borrow.Author.Tests.{eqb-true, eq-eqb}
 use Rattle.limits.specs.Limits.{levelFlag}
 use Rattle.theory.specs.Walk.{greedy}
-use Rattle.theory.specs.Levels.{far}
+use Rattle.theory.specs.Levels.{distanceTo}
 use Rattle.theory.specs.Guide.{next}
 use Rattle.theory.proofs.Below.{and-intro, and-left, and-right, false-unless-true, least-is, least-none}
 use Rattle.theory.proofs.Guide.{along-first, along-step, along-last}
@@ -20,7 +20,7 @@ use Rattle.search.specs.Flags.{Aims, FlagsOf, Steered, Follows}
 
 -- the least state with y that a state leads to
 module _ {S start : ℕ} {r : ℕ → ℕ → Bool} {Lead : ℕ → ℕ → Type 0} (G : Agrees S r start Lead) (level : List ℕ) (y p : ℕ)
-    (near : far S r start p < S) where
+    (near : distanceTo S r start p < S) where
   abbrev test : ℕ → Bool
   test q = eqb (getD level q 0) y && r p q
 

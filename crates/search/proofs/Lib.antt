@@ -1,7 +1,5 @@
 -- Laws behind the functions' proofs, over any relation.
 
--- A list that a loop fills with zeros.
-pub mod Zero
 -- Counts of places that pass a test.
 pub mod Count
 -- Rows of successors.

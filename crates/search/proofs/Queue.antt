@@ -10,10 +10,10 @@ use lib.Seq.{getD-set-same, getD-set-other}
 use lib.Dec.{ltb}
 use borrow.Author.Tests.{ltb-true, lt-ltb, le-ltb}
 use Rattle.theory.proofs.Below.{count-le, count-full}
-use Rattle.search.specs.Queue.{Fits, Takes, TakesAll, Between}
+use Rattle.search.specs.Queue.{Queued, Takes, TakesAll, Between}
 use Rattle.search.proofs.Count.{count-put}
 
-module _ {level queue : List ℕ} {n : ℕ} (F : Fits level queue n) where
+module _ {level queue : List ℕ} {n : ℕ} (F : Queued level queue n) where
   pub fits-le : n ≤ length level
   fits-le = omega (arith, F .many, count-le (length level) (λ p. ltb 0 (getD level p 0)))
 
@@ -79,7 +79,7 @@ module _ {level queue : List ℕ} {n : ℕ} (F : Fits level queue n) where
         let h = rw v at (F .reached i (omega arith)) in
         omega arith
 
-    fits-one : Fits (set level q (x + 1)) (set queue n q) (n + 1)
+    fits-one : Queued (set level q (x + 1)) (set queue n q) (n + 1)
     fits-one = record {
       limit = simp length-set (F .limit);
       same = simp length-set (F .same);
@@ -120,7 +120,7 @@ module _ {x : ℕ} {T : ℕ → Type 0} {level level′ queue queue′ : List �
   pub takes-reached : (q : ℕ) → 0 < getD level q 0 → 0 < getD level′ q 0
   takes-reached q h = rw (takes-kept q h) h
 
-  pub takes-queue : Fits level queue n → length queue′ ≡ length queue
+  pub takes-queue : Queued level queue n → length queue′ ≡ length queue
   takes-queue F = A .fits .same ∙ (A .long ∙ sym (F .same))
 
   pub takes-widen : {U : ℕ → Type 0} → ((q : ℕ) → T q → U q) → Takes x U level level′ queue queue′ n n′
@@ -162,7 +162,7 @@ pub record Partly (x : ℕ) (T Rest : ℕ → Type 0) (level level′ queue queu
   pub takes : Takes x T level level′ queue queue′ n n′
   pub left : (q : ℕ) → T q → (0 < getD level′ q 0) ⊎ Rest q
 
-pub partly-first : {x : ℕ} {T : ℕ → Type 0} {level queue : List ℕ} {n : ℕ} → Fits level queue n → Partly x T T level level queue queue n n
+pub partly-first : {x : ℕ} {T : ℕ → Type 0} {level queue : List ℕ} {n : ℕ} → Queued level queue n → Partly x T T level level queue queue n n
 partly-first F = record { takes = takes-none F; left = λ q t. inr t }
 
 module _ {x : ℕ} {T Rest : ℕ → Type 0} {a b o o′ : List ℕ} {n m : ℕ} (A : Partly x T Rest a b o o′ n m) where

@@ -11,9 +11,9 @@ use lib.Seq.{getD-set-same, getD-set-other}
 use lib.Dec.{ltb}
 use borrow.Author.Tests.{le-ltb}
 use Rattle.limits.specs.Limits.{maxStates}
-use Rattle.theory.specs.Levels.{mark, Upto, Grown}
+use Rattle.theory.specs.Levels.{mark, FoundBelow, Grown}
 use Rattle.theory.proofs.Levels.{mark-in, mark-out, upto-first, upto-at, upto-next, upto-end}
-use Rattle.search.specs.Queue.{Fits, ByLevel, TakesAll, LeadsFrom}
+use Rattle.search.specs.Queue.{Queued, ByLevel, TakesAll, LeadsFrom}
 use Rattle.search.specs.Rounds.{Agrees, Searched}
 use Rattle.search.proofs.Count.{count-same, count-none}
 use Rattle.search.proofs.Queue.{takes-one, takes-kept}
@@ -22,7 +22,7 @@ use Rattle.search.proofs.Queue.{takes-one, takes-kept}
 
 module _ (Lead : ℕ → ℕ → Type 0) (level queue : List ℕ) (start : ℕ) (zero : (p : ℕ) → getD level p 0 ≡ 0) (limit : length level ≤ maxStates)
     (same : length queue ≡ length level) (b : start < length level) where
-  fits-none : Fits level queue 0
+  fits-none : Queued level queue 0
   fits-none = record {
     limit = limit;
     same = same;
@@ -103,7 +103,7 @@ module _ {Lead : ℕ → ℕ → Type 0} {start x lo hi : ℕ} {level queue : Li
             A .covers q (record { place = i; after = l; before = h; is = rw u (G .from p q t) });
       }
 
-      round-upto : Upto (length level) r start (x + 1) (λ p. getD level′ p 0)
+      round-upto : FoundBelow (length level) r start (x + 1) (λ p. getD level′ p 0)
       round-upto =
           upto-next (length level) r (G .inside) start (G .begins) x (λ p. getD level p 0) (I .some) (I .upto r G) (λ p. getD level′ p 0) grown
 
@@ -151,7 +151,7 @@ module _ {Lead : ℕ → ℕ → Type 0} {start x lo hi : ℕ} {level queue : Li
     searched-marks r G = upto-end (length level) r (G .inside) start (G .begins) x (λ p. getD level p 0) (I .some) (I .upto r G) none
 
 -- all distances are found
-pub upto-all : {S : ℕ} {r : ℕ → ℕ → Bool} {a : ℕ} {f : ℕ → ℕ} → ((p : ℕ) → p < S → f p ≡ mark S r a p) → Upto S r a S f
+pub upto-all : {S : ℕ} {r : ℕ → ℕ → Bool} {a : ℕ} {f : ℕ → ℕ} → ((p : ℕ) → p < S → f p ≡ mark S r a p) → FoundBelow S r a S f
 upto-all {S} {r} {a} {f} h = record {
   near = λ p b l k. h p b ∙ mark-in S r a p k;
   rest = λ p b l. h p b ∙ mark-out S r a p l;

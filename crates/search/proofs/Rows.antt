@@ -1,48 +1,20 @@
--- Rows ascend, so those of a node stand in the list; lists that hold a relation are such rows.
+-- The successors of a node by its row, place after place.
 use mathlib.Core.Path.{_≡_, sym, subst}
-use mathlib.Core.Bool.{Bool}
 use mathlib.Core.List.{List}
-use Prim.Native.Nat.{ℕ, zero, suc, _+_, _-_, _≤_, _<_}
+use Prim.Native.Nat.{ℕ, _+_, _≤_, _<_}
 use native.Mathlib.Omega.{arith}
 use native.Mathlib.Numerals.{add-one}
 use native.Mathlib.Decide.{ℕ-discrete}
-use native.Mathlib.Nat.{le-trans, le-refl, add-zero}
-use lib.ListN.{length, getD}
-use Rattle.theory.specs.Adjacency.{Adjacent, Holds}
-use Rattle.search.specs.Rows.{Rows}
-use Rattle.search.specs.Queue.{Listed}
-
-module _ {first targets : List ℕ} {n : ℕ} (H : Rows first targets n) where
-  ascends : (k p : ℕ) → p + k ≤ n → getD first p 0 ≤ getD first (p + k) 0
-  ascends zero p b = rw (add-zero p) (le-refl (getD first p 0))
-  ascends (suc k) p b =
-      let e : p + suc k ≡ p + k + 1 = omega arith in
-      rw e (le-trans (ascends k p (omega arith)) (H .ascends (p + k) (omega arith)))
-
-  last : (p : ℕ) → p ≤ n → getD first p 0 ≤ getD first n 0
-  last p b = let e : p + (n - p) ≡ n = omega arith in rw e at (ascends (n - p) p (omega arith))
-
-  pub rows-length : (p : ℕ) → p < n → getD first (p + 1) 0 ≤ length targets
-  rows-length p b = omega (arith, last (p + 1) (omega arith), H .ends)
-
-  pub rows-below : (p i : ℕ) → p < n → i < getD first (p + 1) 0 → getD targets i 0 < n
-  rows-below p i b l = H .below i (omega (arith, last (p + 1) (omega arith)))
-
--- lists that hold a relation have that shape
-pub holds-rows : {first targets : List ℕ} {n : ℕ} {r : ℕ → ℕ → Bool} → Holds first targets n r → Rows first targets n
-holds-rows H = record {
-  long = omega (arith, H .long);
-  ascends = λ p b. rw (add-one p) (H .ascends p b);
-  ends = H .ends;
-  below = H .below;
-}
+use lib.ListN.{getD}
+use Rattle.theory.specs.Adjacency.{Adjacent}
+use Rattle.search.specs.Queue.{InList}
 
 -- the successors of p are what stands in its row
 module _ {first targets : List ℕ} {p from to : ℕ} (d : from ≡ getD first p 0) (e : to ≡ getD first (p + 1) 0) (q : ℕ) where
-  pub row-in : Listed targets 0 from to q → Adjacent first targets p q
+  pub row-in : InList targets 0 from to q → Adjacent first targets p q
   row-in t = record { place = t .place; after = omega (arith, t .after); before = rw (← add-one p) (omega (arith, t .before)); is = omega (arith, t .is) }
 
-  pub row-out : Adjacent first targets p q → Listed targets 0 from to q
+  pub row-out : Adjacent first targets p q → InList targets 0 from to q
   row-out t = record {
     place = t .place;
     after = omega (arith, t .after);

@@ -7,7 +7,7 @@ use lib.ListN.{length, getD}
 use lib.Dec.{eqb, leb, ltb}
 use Rattle.theory.specs.Below.{all}
 use Rattle.theory.proofs.Below.{and↔, all↔, eqb↔, leb↔, ltb↔}
-use Rattle.search.specs.Rows.{Rows}
+use Rattle.theory.specs.Adjacency.{Rows}
 
 abbrev pub rowsTest : List ℕ → List ℕ → ℕ → Bool
 rowsTest first targets n =

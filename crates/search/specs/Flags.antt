@@ -8,7 +8,7 @@ use Prim.Native.Nat.{ℕ, _+_, _≤_, _<_}
 use lib.ListN.{length, getD, set}
 use Rattle.limits.specs.Limits.{levelFlag}
 use Rattle.theory.specs.Walk.{dist}
-use Rattle.theory.specs.Levels.{far, Upto}
+use Rattle.theory.specs.Levels.{distanceTo, FoundBelow}
 use Rattle.theory.specs.Guide.{Flagged, Along}
 use Rattle.search.specs.Rounds.{Agrees}
 
@@ -25,12 +25,12 @@ pub data Tried (T : ℕ → Type 0) (p : ℕ) (level level′ : List ℕ) : Type
 -- a relation and goals that the lists tell of, where the fewest steps into a goal are one less than x, and the levels up to x are found
 pub record Aims (Lead : ℕ → ℕ → Type 0) (Goal : ℕ → Type 0) (start x : ℕ) (level : List ℕ) (r : ℕ → ℕ → Bool) (goal : ℕ → Bool) : Type 0 where
   pub agrees : Agrees (length level) r start Lead
-  pub goals : (p : ℕ) → far (length level) r start p < length level → Goal p ↔ (goal p ≡ true)
+  pub goals : (p : ℕ) → distanceTo (length level) r start p < length level → Goal p ↔ (goal p ≡ true)
   pub last : x ≡ dist (length level) r goal start + 1
   pub short : dist (length level) r goal start < length level
   pub bound : ℕ
   pub beyond : x ≤ bound
-  pub upto : Upto (length level) r start bound (λ p. getD level p 0)
+  pub upto : FoundBelow (length level) r start bound (λ p. getD level p 0)
 
 -- some states that are reached have the flag besides
 pub record Raised (level level′ : List ℕ) : Type 0 where

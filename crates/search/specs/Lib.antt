@@ -1,7 +1,5 @@
 -- Search by levels over any relation: what it keeps, and what its parts promise.
 
--- Rows of successors.
-pub mod Rows
 -- The states reached, in the order in which they are found.
 pub mod Queue
 -- The least of some states with a level.

@@ -14,7 +14,7 @@ abbrev pub reachedCount : List ℕ → ℕ
 reachedCount level = count (length level) (λ p. ltb 0 (getD level p 0))
 
 -- the queue's first n places are the states that are reached, each once
-pub record Fits (level queue : List ℕ) (n : ℕ) : Type 0 where
+pub record Queued (level queue : List ℕ) (n : ℕ) : Type 0 where
   pub limit : length level ≤ maxStates
   pub same : length queue ≡ length level
   pub below : (i : ℕ) → i < n → getD queue i 0 < length level
@@ -25,13 +25,13 @@ pub record Fits (level queue : List ℕ) (n : ℕ) : Type 0 where
 
 -- and they stand there level by level
 pub record ByLevel (level queue : List ℕ) (n : ℕ) : Type 0 where
-  pub fits : Fits level queue n
+  pub fits : Queued level queue n
   pub bounded : (p : ℕ) → p < length level → getD level p 0 ≤ n
   pub sorted : (i j : ℕ) → i ≤ j → j < n → getD level (getD queue i 0) 0 ≤ getD level (getD queue j 0) 0
 
 -- some states of T that were not reached are taken in: they get x + 1, and stand in the queue from place n on
 pub record Takes (x : ℕ) (T : ℕ → Type 0) (level level′ queue queue′ : List ℕ) (n n′ : ℕ) : Type 0 where
-  pub fits : Fits level′ queue′ n′
+  pub fits : Queued level′ queue′ n′
   pub long : length level′ ≡ length level
   pub more : n ≤ n′
   pub each : (q : ℕ) → (getD level′ q 0 ≡ getD level q 0) ⊎ ((getD level q 0 ≡ 0) × (getD level′ q 0 ≡ x + 1) × T q)
@@ -57,8 +57,8 @@ pub record Between (from to : ℕ) (P : ℕ → ℕ → Type 0) (q : ℕ) : Type
   pub is : P place q
 
 -- `base` plus a number that stands in a list at such a place
-abbrev pub Listed : List ℕ → ℕ → ℕ → ℕ → ℕ → Type 0
-Listed list base from to = Between from to (λ i q. base + getD list i 0 ≡ q)
+abbrev pub InList : List ℕ → ℕ → ℕ → ℕ → ℕ → Type 0
+InList list base from to = Between from to (λ i q. base + getD list i 0 ≡ q)
 
 -- the states at such places of the queue lead there
 abbrev pub LeadsFrom : (ℕ → ℕ → Type 0) → List ℕ → ℕ → ℕ → ℕ → Type 0

@@ -4,9 +4,8 @@ ghost use mathlib.Core.Path.{_≡_};
 ghost use Prim.Native.Nat.{ℕ, _+_, _≤_, _<_};
 ghost use lib.ListN.{length, getD};
 ghost use Rattle.limits.specs.Limits.{maxStates};
-ghost use Rattle.theory.specs.Adjacency.{Adjacent};
-ghost use Rattle.search.specs.Rows.{Rows};
-ghost use Rattle.search.specs.Queue.{Listed};
+ghost use Rattle.theory.specs.Adjacency.{Adjacent, Rows};
+ghost use Rattle.search.specs.Queue.{InList};
 ghost use Rattle.search.specs.Least.{LeastOf, At};
 use limits::Word;
 use limits::cast::from_long;
@@ -40,7 +39,7 @@ pub fn least_listed(
         (from ≤ to) × (to ≤ length (now list)) × (length (now level) ≤ maxStates)
         × ((i : ℕ) → i < to → base + getD (now list) i 0 < length (now level))
         ⌝ }
-    ensures { λ r. ⌜ LeastOf (At (now (level .entry)) y (Listed (now (list .entry)) base from to)) best r ⌝ }
+    ensures { λ r. ⌜ LeastOf (At (now (level .entry)) y (InList (now (list .entry)) base from to)) best r ⌝ }
 {
     let mut low = best;
     let mut i = from;

@@ -23,17 +23,6 @@ pub use reach::take_listed;
 pub use reach::take_row;
 pub use row::leads_to;
 
-// All places at 0.
-pub fn clear(a: &mut [Word])
-    ensures { λ _. ⌜ ((i : ℕ) → getD (now (a .exit)) i 0 ≡ 0) ⌝ }
-{
-    let mut i = 0;
-    while i < a.len() {
-        a[i] = 0;
-        i += 1;
-    }
-}
-
 // How many states are reached.
 pub fn count_reached(level: &[Word]) -> usize
     ensures { λ r. ⌜ r ≡ reachedCount (now (level .entry)) ⌝ }

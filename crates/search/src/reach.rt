@@ -4,16 +4,15 @@ ghost use mathlib.Core.Path.{_≡_};
 ghost use Prim.Native.Nat.{ℕ, _+_, _≤_, _<_};
 ghost use lib.ListN.{length, getD};
 ghost use Rattle.limits.specs.Limits.{maxStates};
-ghost use Rattle.theory.specs.Adjacency.{Adjacent};
-ghost use Rattle.search.specs.Rows.{Rows};
-ghost use Rattle.search.specs.Queue.{Fits, TakesAll, Listed};
+ghost use Rattle.theory.specs.Adjacency.{Adjacent, Rows};
+ghost use Rattle.search.specs.Queue.{Queued, TakesAll, InList};
 use limits::Word;
 use limits::cast::from_long;
 use limits::cast::from_word;
 
 // If q is not reached, it gets level x + 1 and stands at the queue's end, place n; the queue's new end.
 pub fn take_in(level: &mut [Word], queue: &mut [Word], x: Word, q: usize, n: usize) -> usize
-    requires { ⌜ (x ≤ maxStates) × (q < length (now level)) × Fits (now level) (now queue) n ⌝ }
+    requires { ⌜ (x ≤ maxStates) × (q < length (now level)) × Queued (now level) (now queue) n ⌝ }
     ensures { λ r. ⌜ TakesAll x (λ y. y ≡ q) (now (level .entry)) (now (level .exit)) (now (queue .entry)) (now (queue .exit)) n r ⌝ }
 {
     if level[q] == 0 {
@@ -37,10 +36,10 @@ pub fn take_listed(
 ) -> usize
     requires { ⌜
         (x ≤ maxStates) × (from ≤ to) × (to ≤ length (now list))
-        × ((i : ℕ) → i < to → base + getD (now list) i 0 < length (now level)) × Fits (now level) (now queue) n
+        × ((i : ℕ) → i < to → base + getD (now list) i 0 < length (now level)) × Queued (now level) (now queue) n
         ⌝ }
     ensures { λ r. ⌜
-        TakesAll x (Listed (now (list .entry)) base from to)
+        TakesAll x (InList (now (list .entry)) base from to)
         (now (level .entry)) (now (level .exit)) (now (queue .entry)) (now (queue .exit)) n r
         ⌝ }
 {
@@ -66,7 +65,7 @@ pub fn take_row(
 ) -> usize
     requires { ⌜
         (x ≤ maxStates) × (p < length (now level)) × Rows (now first) (now targets) (length (now level))
-        × Fits (now level) (now queue) n
+        × Queued (now level) (now queue) n
         ⌝ }
     ensures { λ r. ⌜
         TakesAll x (Adjacent (now (first .entry)) (now (targets .entry)) p)

@@ -97,3 +97,16 @@ module _ (R : ℕ) (t : List ℕ) (h : length t ≡ shapesEnd R) where
 
   pub heads-long : length (headsIn R t) ≡ pointCount
   heads-long = part-long (headsAt R) (shapesEnd R) t (omega arith) ∙ omega arith
+
+  -- where their places stand in the slice
+  pub rows-at : (i : ℕ) → i < R + 1 → getD t i 0 ≡ getD (rowsIn R t) i 0
+  rows-at i l = sym (getD-take (R + 1) t i 0 l)
+
+  pub corner-at : (s : ℕ) → s < slotCount * R → getD t (cornersAt R + s) 0 ≡ getD (cornersIn R t) s 0
+  corner-at s l = sym (part-at (cornersAt R) (linksAt R) t s (omega arith))
+
+  pub link-at : (s : ℕ) → s < slotCount * R → getD t (linksAt R + s) 0 ≡ getD (linksIn R t) s 0
+  link-at s l = sym (part-at (linksAt R) (headsAt R) t s (omega arith))
+
+  pub head-at : (v : ℕ) → v < pointCount → getD t (headsAt R + v) 0 ≡ getD (headsIn R t) v 0
+  head-at v l = sym (part-at (headsAt R) (shapesEnd R) t v (omega arith))

@@ -1,8 +1,9 @@
 -- The parts of a slice that holds the tables of R regions, one after the other.
+use mathlib.Core.Path.{_≡_}
 use mathlib.Core.List.{List}
-use Prim.Native.Nat.{ℕ, _+_, _-_, _*_}
-use lib.ListN.{take, drop}
-use Rattle.limits.specs.Limits.{slotCount, pointCount, maxFaces}
+use Prim.Native.Nat.{ℕ, _+_, _-_, _*_, _≤_, _<_}
+use lib.ListN.{length, getD, take, drop}
+use Rattle.limits.specs.Limits.{maxRegions, slotCount, pointCount, maxFaces}
 
 -- ---- where each part begins; the first, `rows`, at 0
 
@@ -46,3 +47,18 @@ linksIn R t = part (linksAt R) (headsAt R) t
 -- for each point the first slot that holds it
 abbrev pub headsIn : ℕ → List ℕ → List ℕ
 headsIn R t = part (headsAt R) (shapesEnd R) t
+
+-- ---- what is said of them
+
+-- a slice as long as the tables of R regions
+pub record ShapesRoom (R : ℕ) (shapes : List ℕ) : Type 0 where
+  pub few : R ≤ maxRegions
+  pub long : length shapes ≡ shapesEnd R
+
+-- two regions have a corner in common: the slots of region i begin at slotCount * i
+pub record ShareCorner (corner : List ℕ) (i j : ℕ) : Type 0 where
+  pub left : ℕ
+  pub right : ℕ
+  pub left-below : left < slotCount
+  pub right-below : right < slotCount
+  pub same : getD corner (slotCount * i + left) 0 ≡ getD corner (slotCount * j + right) 0

@@ -4,12 +4,13 @@
 ghost use mathlib.Core.Path.{_≡_};
 ghost use Prim.Native.Nat.{_≤_};
 ghost use Rattle.limits.specs.Limits.{maxRegions};
-ghost use Rattle.shapes.specs.Layout.{facesAt, cornersAt, linksAt, headsAt, shapesEnd};
+ghost use Rattle.shapes.specs.Layout.{facesAt, cornersAt, linksAt, headsAt, shapesEnd, rowsIn, facesIn, cornersIn, ShapesRoom};
 use limits::MAX_FACES;
 use limits::MAX_REGIONS;
 use limits::POINTS;
 use limits::SLOTS;
 use limits::SMALL_REGIONS;
+use limits::Word;
 
 // The length for the largest plan.
 pub const MAX_SHAPES: usize = MAX_REGIONS
@@ -58,4 +59,33 @@ pub fn shapes_end(regions: usize) -> usize
     ensures { λ r. ⌜ r ≡ shapesEnd regions ⌝ }
 {
     regions + 1 + MAX_FACES * regions + SLOTS * regions + SLOTS * regions + POINTS
+}
+
+// ---- the parts that a check of evidence reads
+
+// Where the faces of each region begin.
+pub fn rows_of(shapes: &[Word], regions: usize) -> &[Word]
+    requires { ⌜ ShapesRoom regions (now shapes) ⌝ }
+    ensures { λ r. ⌜ now r ≡ rowsIn regions (now (shapes .entry)) ⌝ }
+{
+    let end = faces_at(regions);
+    &shapes[..end]
+}
+
+pub fn faces_of(shapes: &[Word], regions: usize) -> &[Word]
+    requires { ⌜ ShapesRoom regions (now shapes) ⌝ }
+    ensures { λ r. ⌜ now r ≡ facesIn regions (now (shapes .entry)) ⌝ }
+{
+    let start = faces_at(regions);
+    let end = corners_at(regions);
+    &shapes[start..end]
+}
+
+pub fn corners_of(shapes: &[Word], regions: usize) -> &[Word]
+    requires { ⌜ ShapesRoom regions (now shapes) ⌝ }
+    ensures { λ r. ⌜ now r ≡ cornersIn regions (now (shapes .entry)) ⌝ }
+{
+    let start = corners_at(regions);
+    let end = links_at(regions);
+    &shapes[start..end]
 }

@@ -21,7 +21,8 @@ use Rattle.model.specs.declared.Model.{Model}
 use Rattle.model.specs.Model.{Lawful}
 use Rattle.graph.specs.Plan.{systemOfModel}
 use Rattle.graph.proofs.Models.{system-laws}
-use Rattle.sheet_numbers.specs.Numbers.{Numbers, got, stop, onNumbers, after, numberKeeps, numbersFrom}
+use Rattle.evidence_number.specs.Numbers.{Numbers, got, refused, onNumbers, after}
+use Rattle.sheet_numbers.specs.Numbers.{numberKeeps, numbersFrom}
 use Rattle.sheet_rules.specs.Rules.{Blank}
 use Rattle.sheet.specs.Answer.{sheetNumbers, sheetRefusal, sheetAnswer}
 use Rattle.number.specs.declared.Number.the-variants as number
@@ -62,7 +63,7 @@ module _ (allowed : ℕ → Bool) (top : ℕ) (bs : List ℕ) where
   -- and no others
   Answers : ℕ → ℕ → ℕ → Numbers → Type 0
   Answers n i at (got l e) = (length l ≡ n) × Reads bs at l e × Keep allowed top i l
-  Answers n i at (stop r) = 0 < r
+  Answers n i at (refused r) = 0 < r
 
   answers : (n i at : ℕ) → Answers n i at (numbersFrom allowed top bs n i at)
   unfolding numbersFrom Answers Keep
@@ -72,11 +73,11 @@ module _ (allowed : ℕ → Bool) (top : ℕ) (bs : List ℕ) where
       next : (v p : ℕ) → readEvidence bs at ≡ number.Value v p → numberKeeps (allowed i) top v ≡ true → (c : Numbers) → Answers n (i + 1) p c
           → Answers (suc n) i at (after (v ∷ []) c)
       next v p r t (got l e) (h, w, k) = (ap suc h, more r w, both-keep i v l t k)
-      next v p r t (stop x) h = h
+      next v p r t (refused x) h = h
 
       by : ((p : ℕ) → Answers n (i + 1) p (numbersFrom allowed top bs n (i + 1) p)) → (x : Number) → readEvidence bs at ≡ x
           → Answers (suc n) i at
-          (onNumber x (λ v p. cond (numberKeeps (allowed i) top v) (after (v ∷ []) (numbersFrom allowed top bs n (i + 1) p)) (stop 11)) stop)
+          (onNumber x (λ v p. cond (numberKeeps (allowed i) top v) (after (v ∷ []) (numbersFrom allowed top bs n (i + 1) p)) (refused 11)) refused)
       by ih (number.Value v p) r =
           cond-ind (Answers (suc n) i at) (numberKeeps (allowed i) top v)
           (λ t. next v p r t (numbersFrom allowed top bs n (i + 1) p) (ih p)) (λ _. omega arith)
@@ -101,7 +102,7 @@ module _ (Y : System) (bs : List ℕ) (at : ℕ) where
   sheets-blank : (l : List ℕ) (end : ℕ) → Sheets (got l end) → Blank Y l
   sheets-blank l end t p b o = ⊎-elim (λ a. absurd (true≢false (sym a ∙ o))) (λ z. z) (sheets-at l end t p b .1)
 
-  pub answer-refused : (r : ℕ) → sheetNumbers Y bs at ≡ stop r → r ≡ sheetRefusal Y bs at
+  pub answer-refused : (r : ℕ) → sheetNumbers Y bs at ≡ refused r → r ≡ sheetRefusal Y bs at
   unfolding sheetRefusal
   answer-refused r e = simp e
 
@@ -155,7 +156,7 @@ module _ (Y : System) (L : Laws Y) (bs : List ℕ) (at : ℕ) where
       by : (c : Numbers) → Sheets Y bs at c
           → onNumbers c (λ l end. cond (ltb end (length bs)) 6 (cond (keeps Y (inOf l) (heightOf l)) 0 12)) (λ r. r) ≡ 0 → Passes
       by (got l end) t e = tested l end t (ltb end (length bs)) (keeps Y (inOf l) (heightOf l)) refl refl e
-      by (stop r) t e = absurd (omega arith)
+      by (refused r) t e = absurd (omega arith)
 
   sheet-keep : (l : List ℕ) → Sheet Y l → Keep (Y .allowed) (2 * Y .size - 1) 0 l
   unfolding Keep

@@ -13,15 +13,15 @@ use Rattle.theory.specs.StateGraph.{allowedState, systemOf}
 use Rattle.model.specs.declared.Model.{Model}
 use Rattle.graph.specs.Plan.{automatonOf, systemOfModel}
 use Rattle.graph.specs.States.{states}
-use Rattle.graph.proofs.Plan.{capped}
+use Rattle.graph.proofs.Plan.{some-regions}
 use Rattle.successors.specs.Flags.{AllowedFlags}
 use Rattle.successors.specs.Flow.{regionsIn}
 use Rattle.successors.proofs.Room.{states-limit}
 use Rattle.sheet_numbers.specs.declared.Extent.{Extent}
 use Rattle.sheet_numbers.specs.declared.Extent.the-variants.{End, Refused}
-use Rattle.sheet_numbers.specs.Numbers.{got, stop, Room, numbersFrom, flagged, numbersOf}
+use Rattle.evidence_number.specs.Numbers.{got, refused}
+use Rattle.sheet_numbers.specs.Numbers.{SheetRoom, numbersFrom, flagged, numbersOf}
 use Rattle.sheet_rules.proofs.Keeps.{location-room}
-use Rattle.sheet_rules.proofs.Start.{some-region}
 use Rattle.sheet.specs.Answer.{sheetNumbers, Lent}
 
 eqb-bit : (b : Bool) → eqb (bit b) 1 ≡ b
@@ -39,10 +39,10 @@ module _ (m : Model) (allowed : List ℕ) (A : AllowedFlags m allowed) where
           ap (λ (x : ℕ). eqb x 1) (List·getD-eq-default allowed 0 (omega (arith, A .long))) ∙ rw (le-ltb p (states m) (omega arith))
 
 module _ {m : Model} {allowed first targets shapes sheet : List ℕ} (E : Lent m allowed first targets shapes sheet) where
-  pub read-asked : Room allowed sheet
+  pub read-asked : SheetRoom allowed sheet
   read-asked =
       let ok = E .filled .lawful in
-      let r = some-region (automatonOf m) (capped m ok) in
+      let r = some-regions m in
       let b = location-room 0 (m .locations) (regionsIn m) (states m) refl (ok .locations .0) in
       record {
         some = omega (arith, E .long);
@@ -61,5 +61,5 @@ module _ {m : Model} {allowed first targets shapes sheet : List ℕ} (E : Lent m
     pub numbers-got : (end : ℕ) → r ≡ End end → sheetNumbers (systemOfModel m) bs at ≡ got l end
     numbers-got end t = sym (e ∙ read-told bs at) ∙ ap (λ (x : Extent). numbersOf x l) t
 
-    pub numbers-stop : (x : ℕ) → r ≡ Refused x → sheetNumbers (systemOfModel m) bs at ≡ stop x
+    pub numbers-stop : (x : ℕ) → r ≡ Refused x → sheetNumbers (systemOfModel m) bs at ≡ refused x
     numbers-stop x t = sym (e ∙ read-told bs at) ∙ ap (λ (y : Extent). numbersOf y l) t

@@ -11,8 +11,9 @@ use Rattle.model.specs.declared.Model.{Model}
 use Rattle.graph.specs.Plan.{systemOfModel}
 use Rattle.graph.specs.States.{states}
 use Rattle.successors.specs.Flags.{AllowedFlags}
-use Rattle.sheet_numbers.specs.Numbers.{Numbers, onNumbers, numbersFrom}
-use Rattle.sheet_rules.specs.Tables.{Filled}
+use Rattle.evidence_number.specs.Numbers.{Numbers, onNumbers}
+use Rattle.sheet_numbers.specs.Numbers.{numbersFrom}
+use Rattle.sheet_rules.specs.Tables.{RuleTables}
 
 -- "S numbers in state order", "all at most 2S-1", from an offset on
 abbrev pub sheetNumbers : System → List ℕ → ℕ → Numbers
@@ -31,5 +32,5 @@ sheetAnswer m = sheetRefusal (systemOfModel m)
 -- what the check is lent: a flag for each state, 1 where it is allowed, the arrays of the rules, and a place for the number of each state
 pub record Lent (m : Model) (allowed first targets shapes sheet : List ℕ) : Type 0 where
   pub flags : AllowedFlags m allowed
-  pub filled : Filled m first targets shapes
+  pub filled : RuleTables m first targets shapes
   pub long : length sheet ≡ states m

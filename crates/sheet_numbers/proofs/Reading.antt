@@ -11,7 +11,8 @@ use lib.Dec.{leb, eqb}
 use borrow.Author.Tests.{leb-true, lt-leb, le-leb}
 use Rattle.theory.proofs.Below.{and-left}
 use Rattle.evidence_number.specs.Evidence.{readEvidence}
-use Rattle.sheet_numbers.specs.Numbers.{Numbers, got, stop, after, numberKeeps, numbersFrom, flagged}
+use Rattle.evidence_number.specs.Numbers.{Numbers, got, refused, after}
+use Rattle.sheet_numbers.specs.Numbers.{numberKeeps, numbersFrom, flagged}
 use Rattle.number.specs.declared.Number.the-variants as number
 
 -- ---- one number
@@ -36,26 +37,26 @@ number-blank allowed top v h e = rw (le-leb v top h, e)
 
 pub after-none : (c : Numbers) → after [] c ≡ c
 after-none (got l e) = refl
-after-none (stop r) = refl
+after-none (refused r) = refl
 
 after-after : (l m : List ℕ) (c : Numbers) → after l (after m c) ≡ after (l ++ m) c
 after-after l m (got k e) = ap (λ (x : List ℕ). got x e) (sym (append-assoc l m k))
-after-after l m (stop r) = refl
+after-after l m (refused r) = refl
 
 module _ (allowed : ℕ → Bool) (top : ℕ) (bs : List ℕ) (n i at : ℕ) where
   one-more : i < n → numbersFrom allowed top bs (n - i) i at ≡ numbersFrom allowed top bs (suc (n - (i + 1))) i at
   one-more h = ap (λ (k : ℕ). numbersFrom allowed top bs k i at) (omega arith)
 
   pub numbers-refused : (l : List ℕ) (r : ℕ) → i < n → readEvidence bs at ≡ number.Refused r
-      → after l (numbersFrom allowed top bs (n - i) i at) ≡ stop r
+      → after l (numbersFrom allowed top bs (n - i) i at) ≡ refused r
   unfolding numbersFrom
-  numbers-refused l r h e = let z : numbersFrom allowed top bs (suc (n - (i + 1))) i at ≡ stop r = simp e in ap (after l) (one-more h ∙ z)
+  numbers-refused l r h e = let z : numbersFrom allowed top bs (suc (n - (i + 1))) i at ≡ refused r = simp e in ap (after l) (one-more h ∙ z)
 
   module _ (v p : ℕ) (h : i < n) (e : readEvidence bs at ≡ number.Value v p) where
-    pub numbers-broken : (l : List ℕ) → numberKeeps (allowed i) top v ≡ false → after l (numbersFrom allowed top bs (n - i) i at) ≡ stop 11
+    pub numbers-broken : (l : List ℕ) → numberKeeps (allowed i) top v ≡ false → after l (numbersFrom allowed top bs (n - i) i at) ≡ refused 11
     unfolding numbersFrom
     numbers-broken l t =
-        let z : numbersFrom allowed top bs (suc (n - (i + 1))) i at ≡ stop 11 = simp (e, t) in
+        let z : numbersFrom allowed top bs (suc (n - (i + 1))) i at ≡ refused 11 = simp (e, t) in
         ap (after l) (one-more h ∙ z)
 
     pub numbers-more : (l : List ℕ) → i < length l → numberKeeps (allowed i) top v ≡ true

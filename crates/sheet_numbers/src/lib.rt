@@ -4,7 +4,7 @@ ghost use mathlib.Core.Path.{_≡_};
 ghost use Prim.Native.Nat.{_-_, _*_};
 ghost use lib.ListN.{length};
 ghost use lib.Dec.{eqb};
-ghost use Rattle.sheet_numbers.specs.Numbers.{Room, numberKeeps, numbersFrom, flagged, numbersOf, refusalOf};
+ghost use Rattle.sheet_numbers.specs.Numbers.{SheetRoom, numberKeeps, numbersFrom, flagged, numbersOf, refusalOf};
 use limits::Word;
 use limits::cast::from_long;
 use limits::cast::to_word;
@@ -41,7 +41,7 @@ fn number_keeps(allowed: u8, top: u32, v: u32) -> bool
 
 // A number for each state, from an offset on, each tested before it is cut to a `Word`.
 pub fn read_numbers(bytes: &[u8], at: usize, allowed: &[u8], sheet: &mut [Word]) -> Extent
-    requires { ⌜ Room (now allowed) (now sheet) ⌝ }
+    requires { ⌜ SheetRoom (now allowed) (now sheet) ⌝ }
     ensures { λ r. ⌜
         numbersOf r (now (sheet .exit))
         ≡ numbersFrom (flagged (now (allowed .entry))) (2 * length (now (sheet .entry)) - 1) (now (bytes .entry))

@@ -3,16 +3,17 @@ use mathlib.Core.Path.{_≡_, refl, sym, _∙_}
 use mathlib.Core.Bool.{Bool, true, false, not, true≢false, false≢true}
 use mathlib.Core.Logic.{_↔_}
 use mathlib.Core.List.{List}
-use Prim.Native.Nat.{ℕ, zero, suc, _+_, _-_, _*_, _%_, _≤_, _<_}
+use Prim.Native.Nat.{ℕ, suc, _+_, _*_, _%_, _≤_, _<_}
 use native.Mathlib.Omega.{arith}
 use native.Mathlib.Decide.{ℕ-discrete}
-use native.Mathlib.Nat.{add-zero, le-refl, le-trans, mul-le-mul-right}
+use native.Mathlib.Numerals.{add-one}
+use native.Mathlib.Nat.{mul-le-mul-right}
 use lib.ListN.{length, getD}
 use borrow.Author.Tests.{not-true, not-false, eqb-true, eq-eqb}
-use Rattle.theory.specs.Adjacency.{Adjacent}
+use Rattle.theory.specs.Adjacency.{Adjacent, Rows}
 use Rattle.theory.specs.Sheet.{inOf, heightOf}
 use Rattle.shapes.specs.Layout.{rowsIn, facesIn, cornersIn}
-use Rattle.sheet_rules.specs.Tables.{Rows}
+use Rattle.theory.proofs.Rows.{rows-length, rows-below}
 use Rattle.sheet_rules.specs.Rules.{Touched, StepsKeep, FacesIn, StateKeeps}
 
 -- ---- a test that is told
@@ -49,21 +50,12 @@ location-room l L R S e h = omega (arith, mul-le-mul-right R (let k : l + 1 ≤ 
 -- ---- rows
 
 module _ {first targets : List ℕ} {n : ℕ} (H : Rows first targets n) where
-  ascends : (k p : ℕ) → p + k ≤ n → getD first p 0 ≤ getD first (p + k) 0
-  ascends zero p b = rw (add-zero p) (le-refl (getD first p 0))
-  ascends (suc k) p b =
-      let e : p + suc k ≡ suc (p + k) = omega arith in
-      rw e (le-trans (ascends k p (omega arith)) (H .1 .ascends (p + k) (omega arith)))
-
-  last : (p : ℕ) → p ≤ n → getD first p 0 ≤ getD first n 0
-  last p b = let e : p + (n - p) ≡ n = omega arith in rw e at (ascends (n - p) p (omega arith))
-
   module _ (p : ℕ) (b : p < n) where
     pub row-length : getD first (suc p) 0 ≤ length targets
-    row-length = omega (arith, last (suc p) (omega arith), H .1 .ends)
+    row-length = rw (add-one p) at (rows-length H p b)
 
     pub row-below : (i : ℕ) → i < getD first (suc p) 0 → getD targets i 0 < n
-    row-below i l = H .1 .below i (omega (arith, last (suc p) (omega arith)))
+    row-below i l = rows-below H p i b (rw (add-one p) l)
 
 -- the places of a row up to i hold numbers that pass
 abbrev pub Passed : (ℕ → Type 0) → List ℕ → ℕ → ℕ → Type 0

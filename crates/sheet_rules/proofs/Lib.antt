@@ -6,7 +6,5 @@ pub mod Corners
 pub mod Keeps
 -- The rules by arrays are those of the system.
 pub mod Systems
--- The number of the start.
-pub mod Start
 -- The arrays of a model.
 pub mod Models

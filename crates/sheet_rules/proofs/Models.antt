@@ -10,8 +10,8 @@ use borrow.Author.Tests.{lt-ltb}
 use Rattle.theory.specs.Region.{regions, face, shares}
 use Rattle.theory.specs.StateGraph.{regionCount, locationOf, regionOf, systemOf}
 use Rattle.theory.specs.Sheet.{inOf, heightOf, keeps}
-use Rattle.theory.specs.Adjacency.{Holds, ShareCorner}
-use Rattle.shapes.specs.Layout.{rowsIn, facesIn, cornersIn}
+use Rattle.theory.specs.Adjacency.{Holds}
+use Rattle.shapes.specs.Layout.{rowsIn, facesIn, cornersIn, ShapesRoom, ShareCorner}
 use Rattle.theory.proofs.Below.{bool-ext}
 use Rattle.theory.proofs.Sheet.{keeps-law}
 use Rattle.theory.proofs.StateGraph.{count-positive, allowed-state-law, beside-law}
@@ -19,17 +19,17 @@ use Rattle.model.specs.declared.Model.{Model}
 use Rattle.model.specs.Model.{Lawful}
 use Rattle.graph.specs.Plan.{automatonOf, systemOfModel}
 use Rattle.graph.specs.States.{states}
-use Rattle.graph.proofs.Plan.{capped, within}
+use Rattle.graph.proofs.Plan.{within, start-at}
 use Rattle.graph.proofs.Models.{system-laws, face-allowed}
 use Rattle.region_corners.specs.Corners.{regionAt}
 use Rattle.region_corners.specs.Faces.{faceOf}
 use Rattle.successors.specs.Flow.{regionsIn}
 use Rattle.successors.proofs.Room.{regions-limit}
-use Rattle.sheet_rules.specs.Tables.{Slots, Cut, Sizes, Filled}
+use Rattle.sheet_rules.specs.Tables.{Slots, RuleSizes, RuleTables}
 use Rattle.sheet_rules.specs.Rules.{Blank}
 use Rattle.sheet_rules.proofs.Keeps.{location-room}
-use Rattle.sheet_rules.proofs.Start.{some-region, start-number}
 use Rattle.sheet_rules.proofs.Systems.{Tables, SheetKeeps, tables-sizes, array-law}
+use Rattle.graph.proofs.Plan as plan
 
 face-of : (n M i j : ℕ) → i < length (regions n M) → j < length (regions n M) → faceOf n M i j ≡ face (regionAt n M i) (regionAt n M j)
 unfolding faceOf
@@ -39,7 +39,7 @@ face-of n M i j h k = rw (lt-ltb i (length (regions n M)) h, lt-ltb j (length (r
 pub count-divides : (m : Model) → Lawful m → (S : ℕ) → S ≡ states m → S / m .locations ≡ regionsIn m
 count-divides m ok S e = rw e (mul-div-cancel-left (regionsIn m) (ok .locations .0))
 
-module _ (m : Model) {first targets shapes : List ℕ} (F : Filled m first targets shapes) where
+module _ (m : Model) {first targets shapes : List ℕ} (F : RuleTables m first targets shapes) where
   region-below : (p : ℕ) → p < states m → p % regionsIn m < regionsIn m
   region-below p b = mod-lt p (count-positive (automatonOf m) (m .locations) p b)
 
@@ -62,15 +62,15 @@ module _ (m : Model) {first targets shapes : List ℕ} (F : Filled m first targe
   unfolding regionCount automatonOf
   faces-of = F .tables .face
 
-  cut-of : Cut (regionsIn m) shapes
+  room-of : ShapesRoom (regionsIn m) shapes
   unfolding regionCount automatonOf
-  cut-of = record { few = regions-limit (F .lawful); long = F .tables .long }
+  room-of = record { few = regions-limit (F .lawful); long = F .tables .long }
 
   pub model-tables : Tables (systemOfModel m) (m .locations) (m .start * regionsIn m) (regionsIn m) (m .kind) first targets shapes
   unfolding systemOf locationOf automatonOf
   model-tables = record {
     states = refl;
-    starts = start-number (automatonOf m) (capped m (F .lawful)) (m .start);
+    starts = start-at m;
     forbidden = λ p b. refl;
     flow = F .flow .holds;
     facing = faceOf (m .clocks) (m .ceiling);
@@ -100,21 +100,21 @@ module _ (m : Model) {first targets shapes : List ℕ} (F : Filled m first targe
           beside-law (automatonOf m) (m .locations) (within m (F .lawful)) shares p q .1 ((b, d), (l, region-shares p q (b .0) (d .0) .1 f)),
     );
     slots = slots-of;
-    cut = cut-of;
+    room = room-of;
   }
 
   -- ---- what the test of the rules needs and tells; R is the number of regions
 
   module _ (R : ℕ) (is : R ≡ regionsIn m) where
     pub some-regions : 0 < R
-    some-regions = rw is (some-region (automatonOf m) (capped m (F .lawful)))
+    some-regions = rw is (plan.some-regions m)
 
     module _ (S : ℕ) (e : S ≡ states m) where
       -- the states of location l
       pub location-fits : (l : ℕ) → l < m .locations → l * R + R ≤ S
       location-fits l b = location-room l (m .locations) R S (rw is e) b
 
-      pub sizes-are : Sizes S R first targets shapes
+      pub sizes-are : RuleSizes S R first targets shapes
       unfolding systemOf
       sizes-are = rw (is, e) (tables-sizes (systemOfModel m) (system-laws m (F .lawful)) model-tables)
 

@@ -9,12 +9,13 @@ use native.Mathlib.Nat.{div-add-mod', mod-lt, div-lt-iff-lt-mul, mul-add-div-rig
 use lib.ListN.{getD}
 use lib.Dec.{eqb}
 use Rattle.theory.specs.System.{System, Laws}
-use Rattle.theory.specs.Adjacency.{Holds, ShareCorner}
+use Rattle.theory.specs.Adjacency.{Holds}
 use Rattle.theory.specs.Sheet.{SheetRules, inOf, heightOf}
 use Rattle.theory.proofs.Below.{true-unless-false}
-use Rattle.shapes.specs.Layout.{rowsIn, facesIn, cornersIn}
-use Rattle.sheet_rules.specs.Tables.{Slots, Cut, Sizes}
+use Rattle.shapes.specs.Layout.{rowsIn, facesIn, cornersIn, ShapesRoom, ShareCorner}
+use Rattle.sheet_rules.specs.Tables.{Slots, RuleSizes}
 use Rattle.sheet_rules.specs.Rules.{Blank, Touched, StateKeeps, LocationKeeps}
+use Rattle.theory.proofs.Rows.{holds-rows}
 use Rattle.sheet_rules.proofs.Keeps.{in-odd, location-room, row-below}
 
 -- ---- arrays that tell of a system: state p is region p % R of location p / R
@@ -36,7 +37,7 @@ pub record Tables (Y : System) (locations start R : ℕ) (kind first targets sha
   pub near : (p q : ℕ) → (Y .near p q ≡ true)
       ↔ ((Y .allowed p ≡ true) × (Y .allowed q ≡ true) × (p / R ≡ q / R) × ShareCorner (cornersIn R shapes) (p % R) (q % R))
   pub slots : Slots R (cornersIn R shapes)
-  pub cut : Cut R shapes
+  pub room : ShapesRoom R shapes
 
 -- the rules for all locations
 pub record SheetKeeps (sheet first targets shapes kind : List ℕ) (locations start R : ℕ) : Type 0 where
@@ -55,8 +56,8 @@ pair-right l R i h = mul-add-mod-self-right l R i ∙ mod-eq-of-lt h
 
 module _ (Y : System) (L : Laws Y) {locations start R : ℕ} {kind first targets shapes : List ℕ}
     (T : Tables Y locations start R kind first targets shapes) where
-  pub tables-sizes : Sizes (Y .size) R first targets shapes
-  tables-sizes = record { flow = (Y .flow, T .flow); cut = T .cut; face = (T .facing, T .face-lists); slots = T .slots }
+  pub tables-sizes : RuleSizes (Y .size) R first targets shapes
+  tables-sizes = record { flow = holds-rows (T .flow); room = T .room; face = holds-rows (T .face-lists); slots = T .slots }
 
   -- ---- p is region p % R of location p / R
 
@@ -128,7 +129,7 @@ module _ (Y : System) (L : Laws Y) {locations start R : ℕ} {kind first targets
           record {
             ordinary = λ t. sym (rw e at (T .forbidden p c)) ∙ K .none-forbidden p c t;
             face-in = λ t j a.
-                let k : j < R = rw (a .is) at (row-below (T .facing, T .face-lists) i h (a .place) (a .before)) in
+                let k : j < R = rw (a .is) at (row-below (holds-rows (T .face-lists)) i h (a .place) (a .before)) in
                 K .face-in p (l * R + j) t (T .face p (l * R + j) .1 (
                   in-allowed p c t,
                   state-of l j b k,

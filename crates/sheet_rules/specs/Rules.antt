@@ -6,14 +6,14 @@ use mathlib.Core.List.{List}
 use Prim.Native.Nat.{ℕ, _+_, _*_, _/_, _%_, _≤_, _<_}
 use lib.ListN.{length, getD}
 use Rattle.theory.specs.System.{System}
-use Rattle.theory.specs.Adjacency.{Adjacent, ShareCorner}
+use Rattle.theory.specs.Adjacency.{Adjacent, Rows}
 use Rattle.theory.specs.Sheet.{inOf, heightOf}
 use Rattle.limits.specs.Limits.{slotCount, pointCount}
-use Rattle.shapes.specs.Layout.{rowsIn, facesIn, cornersIn}
+use Rattle.shapes.specs.Layout.{rowsIn, facesIn, cornersIn, ShareCorner}
 use Rattle.model.specs.declared.Model.{Model}
 use Rattle.graph.specs.Plan.{systemOfModel}
 use Rattle.graph.specs.States.{states}
-use Rattle.sheet_rules.specs.Tables.{Rows, Slots, Sizes, Filled}
+use Rattle.sheet_rules.specs.Tables.{Slots, RuleSizes, RuleTables}
 
 -- "a state not allowed has 0", so it is out
 abbrev pub Blank : System → List ℕ → Type 0
@@ -98,7 +98,7 @@ pub record TouchAsked (sheet corner noted : List ℕ) (base R i : ℕ) : Type 0 
 
 pub record LocationAsked (sheet first targets shapes : List ℕ) (base R : ℕ) : Type 0 where
   pub room : base + R ≤ length sheet
-  pub sizes : Sizes (length sheet) R first targets shapes
+  pub sizes : RuleSizes (length sheet) R first targets shapes
 
 pub record StateAsked (sheet first targets shapes noted : List ℕ) (base R i : ℕ) : Type 0 where
   pub location : LocationAsked sheet first targets shapes base R
@@ -106,6 +106,6 @@ pub record StateAsked (sheet first targets shapes noted : List ℕ) (base R i : 
   pub flags : Noted sheet (cornersIn R shapes) noted base R
 
 pub record SheetAsked (m : Model) (first targets shapes sheet : List ℕ) : Type 0 where
-  pub filled : Filled m first targets shapes
+  pub filled : RuleTables m first targets shapes
   pub long : length sheet ≡ states m
   pub blank : Blank (systemOfModel m) sheet

@@ -6,13 +6,14 @@ ghost use mathlib.Core.Bool.{true};
 ghost use mathlib.Core.Logic.{_↔_};
 ghost use Prim.Native.Nat.{_+_, _≤_, _<_};
 ghost use lib.ListN.{length};
+ghost use Rattle.theory.specs.Adjacency.{Rows};
 ghost use Rattle.theory.specs.Sheet.{inOf, heightOf, keeps};
 ghost use Rattle.model.specs.Model.{Lawful};
 ghost use Rattle.graph.specs.Plan.{systemOfModel};
 ghost use Rattle.graph.specs.States.{states};
 ghost use Rattle.shapes.specs.Layout.{rowsIn, facesIn, cornersIn};
 ghost use Rattle.successors.specs.Flow.{regionsIn};
-ghost use Rattle.sheet_rules.specs.Tables.{Rows, Slots, Cut};
+ghost use Rattle.sheet_rules.specs.Tables.{Slots};
 ghost use Rattle.sheet_rules.specs.Rules.{Noted, Touched, StepKeeps, StepsKeep, FacesIn, StateKeeps, LocationKeeps, FacesAsked, NoteAsked, TouchAsked, StateAsked, LocationAsked, SheetAsked};
 use limits::POINTS;
 use limits::SLOTS;
@@ -21,36 +22,9 @@ use limits::cast::from_byte;
 use limits::cast::from_long;
 use limits::cast::from_word;
 use model::Model;
-use shapes::corners_at;
-use shapes::faces_at;
-use shapes::links_at;
-
-// Where the faces of each region begin.
-fn rows_of(shapes: &[Word], regions: usize) -> &[Word]
-    requires { ⌜ Cut regions (now shapes) ⌝ }
-    ensures { λ r. ⌜ now r ≡ rowsIn regions (now (shapes .entry)) ⌝ }
-{
-    let end = faces_at(regions);
-    &shapes[..end]
-}
-
-fn faces_of(shapes: &[Word], regions: usize) -> &[Word]
-    requires { ⌜ Cut regions (now shapes) ⌝ }
-    ensures { λ r. ⌜ now r ≡ facesIn regions (now (shapes .entry)) ⌝ }
-{
-    let start = faces_at(regions);
-    let end = corners_at(regions);
-    &shapes[start..end]
-}
-
-fn corners_of(shapes: &[Word], regions: usize) -> &[Word]
-    requires { ⌜ Cut regions (now shapes) ⌝ }
-    ensures { λ r. ⌜ now r ≡ cornersIn regions (now (shapes .entry)) ⌝ }
-{
-    let start = corners_at(regions);
-    let end = links_at(regions);
-    &shapes[start..end]
-}
+use shapes::corners_of;
+use shapes::faces_of;
+use shapes::rows_of;
 
 fn is_in(sheet: &[Word], p: usize) -> bool
     requires { ⌜ p < length (now sheet) ⌝ }

@@ -22,7 +22,7 @@ use Rattle.graph.specs.States.{states}
 use Rattle.graph.proofs.Models.{system-laws}
 use Rattle.successors.proofs.Room.{states-limit}
 use Rattle.survey.specs.Surveyed.{Surveyed}
-use Rattle.spelling.specs.Lays.{Lays, mostBytes}
+use Rattle.spelling.specs.Lays.{Lays, maxBytes}
 use Rattle.spelling.proofs.Lays.{lays-then, lays-as, spell-append, spell-few, spell-all-few}
 
 -- a state's number, by what is known of it
@@ -68,7 +68,7 @@ laid-next {p = p} {v = v} f a b e =
 
 -- there is room for a number after those of few states
 pub room-next : {o o₁ o₂ : List ℕ} {at r p : ℕ} (f : ℕ → ℕ) (v : ℕ) → Lays o o₁ 0 at (spell 1) → Lays o₁ o₂ at r (spellAll (tab p f))
-    → p ≤ maxStates → r + length (spell v) ≤ mostBytes
+    → p ≤ maxStates → r + length (spell v) ≤ maxBytes
 room-next {p = p} f v a b h =
     omega (arith, a .end, spell-few 1, b .end, spell-all-few (tab p f), tab-length p f, spell-few v)
 

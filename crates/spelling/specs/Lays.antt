@@ -8,12 +8,12 @@ use Rattle.limits.specs.Limits.{maxClocks, maxStates}
 
 -- the most numbers of a step: a touch has its kind, a region, a count and a walk, which has at most one step more than there are states, and each
 -- of these a kind and an edge
-abbrev pub mostMoveNumbers : ℕ
-mostMoveNumbers = 2 + 2 * maxClocks + 2 * (maxStates + 1)
+abbrev pub maxMoveNumbers : ℕ
+maxMoveNumbers = 2 + 2 * maxClocks + 2 * (maxStates + 1)
 
 -- the most bytes of evidence, three a number: of a trail, with its 2, its count and fewer steps than there are states; a sheet has fewer numbers
-abbrev pub mostBytes : ℕ
-mostBytes = 3 * (2 + mostMoveNumbers * maxStates)
+abbrev pub maxBytes : ℕ
+maxBytes = 3 * (2 + maxMoveNumbers * maxStates)
 
 -- They end at r. Where they fit, just they are stored; where they don't, only the length of the output is known to be kept.
 pub record Lays (out out′ : List ℕ) (at r : ℕ) (bs : List ℕ) : Type 0 where

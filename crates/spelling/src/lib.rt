@@ -4,11 +4,11 @@
 ghost use Prim.Native.Nat.{_+_, _<_, _≤_, _^_};
 ghost use lib.ListN.{length};
 ghost use Rattle.number.specs.Number.{spell};
-ghost use Rattle.spelling.specs.Lays.{Lays, mostBytes};
+ghost use Rattle.spelling.specs.Lays.{Lays, maxBytes};
 
 // The number at an offset; the offset after it.
 pub fn put(out: &mut [u8], at: usize, v: u32) -> usize
-    requires { ⌜ (v < 2 ^ 21) × (at + length (spell v) ≤ mostBytes) ⌝ }
+    requires { ⌜ (v < 2 ^ 21) × (at + length (spell v) ≤ maxBytes) ⌝ }
     ensures { λ r. ⌜ Lays (now (out .entry)) (now (out .exit)) at r (spell v) ⌝ }
 {
     let end = at + number::shortest_length(v);

@@ -9,6 +9,7 @@ use lib.ListN.{length, getD, take, drop, set}
 use lib.Seq.{take-at}
 use lib.Dec.{eqb}
 use borrow.Author.Tests.{eq-eqb, ne-eqb, eqb-true}
+use Rattle.theory.proofs.Lists.{from-length}
 use Rattle.theory.specs.Below.{bit, count}
 use Rattle.theory.specs.Lists.{keep, from}
 use Rattle.theory.proofs.Below.{count-le}
@@ -17,10 +18,6 @@ use Rattle.region_table.proofs.Selection.{Filled, filled-start, filled-in, fill
 use Rattle.model.specs.declared.Model.{Model}
 use Rattle.model.specs.Model.{sourceOf}
 use Rattle.successors.specs.Flow.{leaving}
-
-pub from-length : (k c : ℕ) → length (from k c) ≡ c
-from-length k zero = refl
-from-length k (suc c) = ap suc (from-length (suc k) c)
 
 from-at : (k c e : ℕ) → e < c → getD (from k c) e 0 ≡ k + e
 from-at k zero e h = absurd (omega arith)

@@ -6,9 +6,9 @@ use mathlib.Core.Path.{_≡_, refl, sym, ap, _∙_, subst}
 use mathlib.Core.Bool.{Bool, true, false, true≢false, false≢true}
 use mathlib.Core.Logic.{_↔_, _⊎_, inl, inr, ⊎-elim}
 use mathlib.Core.List.{List, [], List·Memᴰ}
-use lib.ListN.{length, getD, length-map}
+use lib.ListN.{length, getD}
+use Rattle.graph.proofs.Plan.{edges-length}
 use Rattle.theory.specs.Below.{bit}
-use Rattle.theory.specs.Lists.{from}
 use Rattle.theory.specs.Labels.{Leads}
 use Rattle.theory.specs.Region.{Clock, successor}
 use Rattle.theory.specs.RegionGraph.{Allowed, Enabled, after, guardHolds}
@@ -24,7 +24,7 @@ use Rattle.graph.proofs.States.{edge-is}
 use Rattle.graph.proofs.Models.{system-laws, labelled-laws}
 use Rattle.successors.specs.Flags.{AllowedFlags}
 use Rattle.successors.specs.Flow.{regionsIn, stateOf, leaving}
-use Rattle.successors.proofs.Leaving.{from-length, at-leaving}
+use Rattle.successors.proofs.Leaving.{at-leaving}
 use Rattle.successors.proofs.Numbers.{state-below, state-location, state-region, enters}
 
 -- one of the first n of these edges leads from p to q
@@ -44,10 +44,6 @@ bit-one true = (λ e. refl, λ e. refl)
 bit-one false = (λ e. absurd (omega arith), λ e. absurd (false≢true e))
 
 module _ (m : Model) (ok : Lawful m) where
-  edge-count : length (automatonOf m .edges) ≡ m .edges
-  unfolding automatonOf
-  edge-count = length-map (from 0 (m .edges)) (edgeOf m) ∙ from-length 0 (m .edges)
-
   -- the flag of a state
   pub flagged : (allowed : List ℕ) → AllowedFlags m allowed → (q : ℕ) → q < states m
       → (getD allowed q 0 ≡ 1) ↔ (allowedState (automatonOf m) (m .locations) q ≡ true)
@@ -97,7 +93,7 @@ module _ (m : Model) (ok : Lawful m) where
         → JumpsTo m (leaving m l) (length (leaving m l)) (stateOf m l i) q
     unfolding labelledOf stepFrom systemOf
     jumps e q (a, j, c) =
-        let d : e < m .edges = omega (arith, edge-count) in
+        let d : e < m .edges = omega (arith, edges-length m) in
         let (t, o, r, n) = jump-law (automatonOf m) (m .locations) e (stateOf m l i) q (omega arith) (target-below e d) .0 (j, c) in
         let s : sourceOf m e ≡ l = ap (λ g. g .source) (sym (edge-is m ok e d)) ∙ o .here ∙ here-location in
         let (k, u, v) = at-leaving m l e d s in
@@ -144,7 +140,7 @@ module _ (m : Model) (ok : Lawful m) where
     at-region = getD (regionsOf (automatonOf m)) i []
 
     drawn : List·Memᴰ (edgeOf m e) (automatonOf m .edges)
-    drawn = rw (edge-is m ok e d) at (at-in noEdge (automatonOf m .edges) e (omega (arith, edge-count)))
+    drawn = rw (edge-is m ok e d) at (at-in noEdge (automatonOf m .edges) e (omega (arith, edges-length m)))
 
     -- the theory's law of a jump, at this edge and region
     jump-here : (q : ℕ)
@@ -156,7 +152,7 @@ module _ (m : Model) (ok : Lawful m) where
     unfolding at-region
     jump-here q =
         rw (edge-is m ok e d, here-location (sourceOf m e) i from-below h, here-region (sourceOf m e) i from-below h) at
-        (jump-law (automatonOf m) (m .locations) e (stateOf m (sourceOf m e) i) q (omega (arith, edge-count)) (target-below e d))
+        (jump-law (automatonOf m) (m .locations) e (stateOf m (sourceOf m e) i) q (omega (arith, edges-length m)) (target-below e d))
 
     -- where the guard does not hold, there is none
     pub jump-shut : guardHolds (edgeOf m e) (getD (regionsOf (automatonOf m)) i []) ≡ false
@@ -179,7 +175,7 @@ module _ (m : Model) (ok : Lawful m) where
           λ x.
               let (u, v) = g (x .some, x .is, x .allowed) in
               let (j, c) = jump-here q .1 (t, record { drawn = drawn; here = refl; low = low; high = high }, u, v) in
-              (omega (arith, edge-count), j, c),
+              (omega (arith, edges-length m), j, c),
           λ (a, j, c).
               let (w, k, u, v) = jump-here q .0 (j, c) in
               let (x, y, z) = f (u, v) in

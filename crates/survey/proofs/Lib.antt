@@ -1,5 +1,3 @@
--- The start.
-pub mod Start
 -- What the searches ask of the tables, and what they find.
 pub mod Tables
 -- Forbidden states.

@@ -1,26 +1,25 @@
 -- The tables of a model are what the search for closed walks and the marking ask for.
-use Prim.Native.Nat.{ℕ, _+_, _*_, _/_, _%_, _≤_, _<_}
+use Prim.Native.Nat.{ℕ, _+_, _*_, _/_, _%_, _<_}
 use native.Mathlib.Omega.{arith}
 use native.Mathlib.Nat.{mod-lt, mul-le-mul-right}
-use native.Mathlib.Numerals.{add-one}
 use mathlib.Core.Path.{_≡_, refl, sym, ap, _∙_}
-use mathlib.Core.Bool.{Bool, true, false, _&&_}
+use mathlib.Core.Bool.{Bool, true, false}
 use mathlib.Core.Logic.{_↔_}
 use mathlib.Core.List.{List}
-use lib.ListN.{length, getD}
-use Rattle.limits.specs.Limits.{maxStates, slotCount, pointCount}
-use Rattle.shapes.specs.Layout.{shapesEnd, cornersIn}
+use lib.ListN.{length}
+use Rattle.graph.proofs.Plan.{start-at, some-regions}
+use Rattle.limits.specs.Limits.{maxStates, pointCount}
+use Rattle.shapes.specs.Layout.{cornersIn, ShareCorner}
 use Rattle.shapes.proofs.Parts.{corners-long}
 use Rattle.theory.specs.Below.{bit}
 use Rattle.theory.specs.System.{onClosedWalk}
 use Rattle.theory.specs.Height.{height}
-use Rattle.theory.specs.Adjacency.{Holds, ShareCorner}
+use Rattle.theory.proofs.Rows.{holds-rows}
 use Rattle.theory.specs.Region.{face, shares, regions}
 use Rattle.theory.specs.StateGraph.{regionCount, locationOf, regionOf, allowedState, beside, systemOf}
 use Rattle.theory.proofs.Below.{and↔, eqb↔, ltb↔, test↔}
-use Rattle.theory.proofs.System.{start-below, closed-walk-law}
+use Rattle.theory.proofs.System.{closed-walk-law}
 use Rattle.theory.proofs.Walk.{walk-first}
-use Rattle.theory.proofs.StateGraph.{count-positive}
 use Rattle.model.specs.declared.Model.{Model}
 use Rattle.model.specs.Model.{Lawful}
 use Rattle.graph.specs.Plan.{automatonOf, systemOfModel}
@@ -30,24 +29,14 @@ use Rattle.successors.specs.Flow.{regionsIn, FlowLists}
 use Rattle.successors.proofs.Room.{regions-limit, states-limit, steps-limit}
 use Rattle.region_corners.specs.Faces.{faceOf}
 use Rattle.region_corners.specs.Shapes.{Linked}
-use Rattle.search.specs.Rows.{Rows}
 use Rattle.survey.specs.Surveyed.{Heights}
 use Rattle.tables.proofs.Lent.{regions-are}
-use Rattle.survey.proofs.Start.{start-at}
 use Rattle.component.specs.Marks as component
 use Rattle.marking.specs.Tables as marking
 
 module _ (m : Model) (ok : Lawful m) where
   abbrev allowed : ℕ → Bool
   allowed = allowedState (automatonOf m) (m .locations)
-
-  pub some-regions : 0 < regionsIn m
-  unfolding systemOf
-  some-regions = count-positive (automatonOf m) (m .locations) (systemOfModel m .start) (start-below (systemOfModel m) (system-laws m ok))
-
-  pub size-states : systemOfModel m .size ≡ states m
-  unfolding systemOf
-  size-states = refl
 
   -- the start is a state
   start-short : (r : ℕ) → r ≡ length (regions (m .clocks) (m .ceiling)) → 0 < r → m .start * r < states m
@@ -56,24 +45,15 @@ module _ (m : Model) (ok : Lawful m) where
 
   pub start-product : (r : ℕ) → r ≡ length (regions (m .clocks) (m .ceiling)) → m .start * r < maxStates
   start-product r e =
-      let z : 0 < r = rw (e ∙ sym (regions-are m ok)) some-regions in
+      let z : 0 < r = rw (e ∙ sym (regions-are m ok)) (some-regions m) in
       omega (arith, start-short r e z, states-limit ok)
 
   same-location : (p q : ℕ) → p / regionsIn m ≡ q / regionsIn m → locationOf (automatonOf m) p ≡ locationOf (automatonOf m) q
   unfolding locationOf
   same-location p q e = e
 
-  rows-of : (first targets : List ℕ) (n : ℕ) (r : ℕ → ℕ → Bool) → Holds first targets n r → Rows first targets n
-  rows-of first targets n r h =
-      record {
-        long = simp add-one (h .long);
-        ascends = λ p b. simp add-one (h .ascends p b);
-        ends = h .ends;
-        below = h .below;
-      }
-
   module _ (first targets : List ℕ) (F : FlowLists m first targets) where
-    pub component-shape : component.Shape first targets (states m)
+    pub component-shape : component.GraphLists first targets (states m)
     component-shape =
         let h = F .holds in
         record {
@@ -92,14 +72,14 @@ module _ (m : Model) (ok : Lawful m) where
         record { long = e; are = M .are (systemOfModel m) (system-laws m ok) refl (F .holds) }
 
     module _ (shapes heights : List ℕ) (K : Linked (m .clocks) (m .ceiling) shapes) where
-      pub marking-shape : length heights ≡ states m → marking.Shape (states m) (regionsIn m) first targets shapes heights
+      pub marking-shape : length heights ≡ states m → marking.SearchTables (states m) (regionsIn m) first targets shapes heights
       unfolding automatonOf regionCount
       marking-shape f =
           record {
-            flow = rows-of first targets (states m) (systemOfModel m .flow) (F .holds);
+            flow = holds-rows (F .holds);
             tables =
                 record {
-                  some = some-regions;
+                  some = (some-regions m);
                   states = states-limit ok;
                   locations = m .locations;
                   whole = refl;
@@ -107,7 +87,7 @@ module _ (m : Model) (ok : Lawful m) where
                       record {
                         regions = regions-limit ok;
                         long = K .shapes .long;
-                        face = rows-of _ _ (regionsIn m) (faceOf (m .clocks) (m .ceiling)) (K .shapes .face);
+                        face = holds-rows (K .shapes .face);
                       };
                   corner-below = λ s b. K .shapes .slots .below s (rw (corners-long (regionsIn m) shapes (K .shapes .long)) b);
                   chains = K .chains;
@@ -116,7 +96,7 @@ module _ (m : Model) (ok : Lawful m) where
           }
 
       region-below : (p : ℕ) → p % regionsIn m < regionsIn m
-      region-below p = mod-lt p some-regions
+      region-below p = mod-lt p (some-regions m)
 
       -- two allowed states of one location, their regions joined by a test
       beside-law : (test : _) (p q : ℕ) → (beside (automatonOf m) (m .locations) test p q ≡ true)
@@ -191,10 +171,10 @@ module _ (m : Model) (ok : Lawful m) where
         pub asked : (distance queue : List ℕ) (flags : ℕ) → length distance ≡ states m → length queue ≡ states m → length heights ≡ states m
             → flags ≡ m .locations * pointCount
             → (m .start * r < length distance) × (length queue ≡ length distance)
-            × marking.Shape (length distance) r first targets shapes heights × marking.Spots (length distance) r flags
+            × marking.SearchTables (length distance) r first targets shapes heights × marking.Spots (length distance) r flags
         asked distance queue flags f g h i =
             rw (count-is, f)
-            (start-short (regionsIn m) (regions-are m ok) some-regions, g, marking-shape h, record { locations = m .locations; states = refl; spots = i })
+            (start-short (regionsIn m) (regions-are m ok) (some-regions m), g, marking-shape h, record { locations = m .locations; states = refl; spots = i })
 
         -- what it finds
         pub tables-by : Heights m heights → marking.Tables (systemOfModel m) (m .start * r) r first targets shapes heights

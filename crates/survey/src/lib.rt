@@ -44,7 +44,7 @@ pub fn search(
 {
     let s = heights.len();
     component::components(first, targets, heights, distance, queue, spare, s);
-    let mut noted = [0u8; MAX_LOCATIONS * POINTS];
+    let mut visited = [0u8; MAX_LOCATIONS * POINTS];
     let flags = from_byte(m.locations) * POINTS;
     let r = from_short(region_table::count(m.clocks, m.ceiling));
     let start = from_byte(m.start) * r;
@@ -57,7 +57,7 @@ pub fn search(
         heights,
         distance,
         queue,
-        &mut noted[..flags],
+        &mut visited[..flags],
     );
 }
 

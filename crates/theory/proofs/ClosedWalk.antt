@@ -7,7 +7,7 @@ use lib.ListN.{length}
 use lib.Dec.{eqb}
 use borrow.Author.Tests.{eqb-true, eq-eqb}
 use Rattle.theory.specs.Walk.{Walk, Lex, dist⁺}
-use Rattle.theory.specs.System.{System, Laws, OnClosedWalk}
+use Rattle.theory.specs.System.{System, Laws, OnClosedWalkIn}
 use Rattle.theory.specs.ClosedWalk.{closedWalkSteps, closedWalk}
 use Rattle.theory.proofs.Walk.{walk-first, dist⁺-below, dist⁺-min, dist⁺-exact, greedy-walk, greedy-length, greedy-least}
 use Rattle.theory.proofs.System.{flow-inside, into-state}
@@ -17,7 +17,7 @@ module _ (Y : System) (L : Laws Y) (q : ℕ) where
   unfolding closedWalkSteps dist⁺
   closed-walk-some = omega arith
 
-  pub closed-walk-below : OnClosedWalk Y q → closedWalkSteps Y q ≤ Y .size
+  pub closed-walk-below : OnClosedWalkIn Y q → closedWalkSteps Y q ≤ Y .size
   unfolding closedWalkSteps
   closed-walk-below (x, l, w) =
       let (e, v) = walk-first w in
@@ -27,7 +27,7 @@ module _ (Y : System) (L : Laws Y) (q : ℕ) where
   unfolding closedWalk
   closed-walk-length = greedy-length (Y .size) (Y .flow) (λ x. eqb x q) (flow-inside Y L) (closedWalkSteps Y q) q
 
-  pub closed-walk-walk : OnClosedWalk Y q → Walk (Y .flow) q q (closedWalk Y q)
+  pub closed-walk-walk : OnClosedWalkIn Y q → Walk (Y .flow) q q (closedWalk Y q)
   unfolding closedWalk closedWalkSteps
   closed-walk-walk o =
       let e = dist⁺-exact (Y .size) (Y .flow) (λ x. eqb x q) (flow-inside Y L) q (closed-walk-below o) in

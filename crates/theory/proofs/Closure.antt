@@ -8,14 +8,14 @@ use lib.Dec.{eqb}
 use borrow.Author.Tests.{eqb-true, eq-eqb}
 use Rattle.theory.specs.Below.{count}
 use Rattle.theory.specs.System.{System, Laws}
-use Rattle.theory.specs.Marked.{Marked, begin, onward, step, marks}
+use Rattle.theory.specs.Marked.{MarkedIn, begin, onward, step, marks}
 use Rattle.theory.proofs.Below.{or-cases, or-left, or-right, count-strict}
 use Rattle.theory.proofs.System.{start-below}
 use Rattle.theory.proofs.Marked.{step-is, is-step, step-inside, marks-only}
 
 pub record Closing (Y : System) (seen followed : ℕ → Bool) : Type 0 where
   pub start-seen : seen (Y .start) ≡ true
-  pub seen-marked : (p : ℕ) → p < Y .size → seen p ≡ true → Marked Y p
+  pub seen-marked : (p : ℕ) → p < Y .size → seen p ≡ true → MarkedIn Y p
   pub followed-seen : (p q : ℕ) → followed p ≡ true → step Y p q ≡ true → seen q ≡ true
 
 module _ (Y : System) (L : Laws Y) where

@@ -6,7 +6,7 @@ use mathlib.Core.List.{List, [], _∷_, _++_}
 use Prim.Native.Nat.{ℕ, suc, _≤_, _<_, zero-le, suc-le-suc}
 use native.Mathlib.Nat.{le-trans}
 use Rattle.theory.specs.Walk.{Walk, stop, move}
-use Rattle.theory.specs.System.{System, Reaches, OnClosedWalk}
+use Rattle.theory.specs.System.{System, Reaches, OnClosedWalkIn}
 use Rattle.theory.specs.Height.{Falls, none, level, down, IsHeight}
 use Rattle.theory.proofs.Walk.{walk-append, walk-first}
 
@@ -18,7 +18,7 @@ module _ (Y : System) where
   reach-one {q} e = (q ∷ [], move e stop)
 
   -- a way there, a step, and a way back
-  pub closed-by : {p q s : ℕ} {l : List ℕ} → Walk (Y .flow) p q l → Y .flow q s ≡ true → Reaches Y s p → OnClosedWalk Y p
+  pub closed-by : {p q s : ℕ} {l : List ℕ} → Walk (Y .flow) p q l → Y .flow q s ≡ true → Reaches Y s p → OnClosedWalkIn Y p
   closed-by {s} stop e v = (s, v .0, move e (v .1))
   closed-by (move {q = x} {l = m} f w) e v = (x, m ++ (_ ∷ v .0), move f (walk-append w (move e (v .1))))
 
@@ -44,15 +44,15 @@ module _ {Y : System} {In Done : ℕ → Type 0} (C : Component Y In Done) where
 
   -- ---- a state of In lies on a closed walk just if it has a step to In, and then all of In do
 
-  pub closed-in : (p q : ℕ) → In p → In q → Y .flow p q ≡ true → OnClosedWalk Y p
+  pub closed-in : (p q : ℕ) → In p → In q → Y .flow p q ≡ true → OnClosedWalkIn Y p
   closed-in p q i j e = let w = C .all q p j i in (q, w .0, move e (w .1))
 
-  pub in-closed : (p : ℕ) → In p → ((q : ℕ) → Y .flow p q ≡ true → In q → ⊥) → ¬ OnClosedWalk Y p
+  pub in-closed : (p : ℕ) → In p → ((q : ℕ) → Y .flow p q ≡ true → In q → ⊥) → ¬ OnClosedWalkIn Y p
   in-closed p i f (q, l, w) =
       let (e, v) = walk-first w in
       ⊎-elim (f q e) (λ d. no-back i d (l, v)) (C .leaves p q i e)
 
-  pub closed-all : (p q : ℕ) → In p → In q → OnClosedWalk Y p → OnClosedWalk Y q
+  pub closed-all : (p q : ℕ) → In p → In q → OnClosedWalkIn Y p → OnClosedWalkIn Y q
   closed-all p q i j (x, l, w) =
       let (e, v) = walk-first w in
       closed-by Y (C .all q p j i .1) e (reach-join Y (l, v) (C .all p q i j))

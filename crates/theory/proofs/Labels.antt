@@ -8,7 +8,7 @@ use Prim.Native.Nat.{ℕ, zero, suc, _≤_, _<_}
 use native.Mathlib.Omega.{arith}
 use lib.ListN.{length}
 use Rattle.theory.specs.Walk.{Walk, stop, move}
-use Rattle.theory.specs.System.{OnClosedWalk}
+use Rattle.theory.specs.System.{OnClosedWalkIn}
 use Rattle.theory.specs.ClosedWalk.{closedWalkSteps, closedWalk}
 use Rattle.theory.specs.Labels.{LabelledSystem, LabelledLaws, Leads, LabelWalk, empty, label, ClosedLabelWalk, labelKind, labelEdge, opens, leads, walks, walkEnd, walkStates, closes, leastLabel, labelsAlong, closedWalkLabels}
 use Rattle.theory.proofs.Below.{least-min, least-at, test↔, eqb↔, ltb↔, leb↔, and↔}
@@ -105,7 +105,7 @@ module _ (P : LabelledSystem) (M : LabelledLaws P) where
   label-walk-flow b (label {p = p} {x = x} {xs = xs} (a, c, d) w) =
       rw c (move (rw c at (M .next-flow x p a b (rw c d))) (label-walk-flow d w))
 
-  pub closed-label-walk : (xs : List ℕ) (q : ℕ) → ClosedLabelWalk P xs q → OnClosedWalk (P .system) q
+  pub closed-label-walk : (xs : List ℕ) (q : ℕ) → ClosedLabelWalk P xs q → OnClosedWalkIn (P .system) q
   unfolding walkStates
   closed-label-walk [] q (n, w) = absurd (omega arith)
   closed-label-walk (x ∷ xs) q (n, w) = (P .next x q, walkStates P xs (P .next x q), label-walk-flow (closed-label-below P n w) w)
@@ -132,12 +132,12 @@ module _ (P : LabelledSystem) (M : LabelledLaws P) where
     unfolding closedWalkLabels
     closed-labels-length = along-length P q (closedWalk (P .system) q) ∙ closed-walk-length (P .system) (M .laws) q
 
-    pub closed-labels-close : OnClosedWalk (P .system) q → ClosedLabelWalk P (closedWalkLabels P q) q
+    pub closed-labels-close : OnClosedWalkIn (P .system) q → ClosedLabelWalk P (closedWalkLabels P q) q
     unfolding closedWalkLabels
     closed-labels-close o =
         let n : 1 ≤ length (closedWalkLabels P q) = omega (arith, closed-labels-length, closed-walk-some (P .system) (M .laws) q) in
         (n, along-walk (closed-walk-walk (P .system) (M .laws) q o) .0)
 
-    pub closed-labels-states : OnClosedWalk (P .system) q → walkStates P (closedWalkLabels P q) q ≡ closedWalk (P .system) q
+    pub closed-labels-states : OnClosedWalkIn (P .system) q → walkStates P (closedWalkLabels P q) q ≡ closedWalk (P .system) q
     unfolding closedWalkLabels
     closed-labels-states o = along-walk (closed-walk-walk (P .system) (M .laws) q o) .1

@@ -57,10 +57,14 @@ pub mod Stay
 pub mod Sharp
 -- Numbers of states lead to states and back; the system of an automaton keeps the laws.
 pub mod StateGraph
+-- The start is the first state of its location.
+pub mod First
 -- Its marked numbers are the marked states; a closed set of numbers covers slight drift.
 pub mod StateMarked
 -- ---- searches level by level
 
+-- Rows of successors in lists.
+pub mod Rows
 -- Rounds find the distances; the marks and our trail's steps from them.
 pub mod Levels
 -- The nodes of the shortest walks, and the least of these walks; closed walks by the same search.

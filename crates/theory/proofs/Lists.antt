@@ -6,8 +6,13 @@ use mathlib.Core.Path.{_≡_, refl, sym, ap, ap₂, subst}
 use mathlib.Core.Bool.{Bool, true, false, _&&_, true≢false, false≢true}
 use mathlib.Core.Logic.{_↔_, _⊎_, inl, inr}
 use mathlib.Core.List.{List, [], _∷_, map, List·Memᴰ, List·Memᴰ·head, List·Memᴰ·tail, List·Memᴰ·not-nil, List·Memᴰ·cases-cons, nil≢cons, cons≢nil, Memᴰ·cast}
-use Rattle.theory.specs.Lists.{every, some, same, down}
+use lib.ListN.{length}
+use Rattle.theory.specs.Lists.{every, some, same, down, from}
 use Rattle.theory.proofs.Below.{or-cases, or-left, or-right, and-intro, and-left, and-right, and↔, eqb↔}
+
+pub from-length : (k c : ℕ) → length (from k c) ≡ c
+from-length k zero = refl
+from-length k (suc c) = ap suc (from-length (suc k) c)
 
 module _ {A : Type 0} {p : A → Bool} {P : A → Type 0} (law : (x : A) → (p x ≡ true) ↔ P x) where
   every-each : (l : List A) → every p l ≡ true → (x : A) → List·Memᴰ x l → P x

@@ -10,7 +10,7 @@ use lib.ListN.{length}
 use lib.Dec.{ltb}
 use borrow.Author.Tests.{ltb-true, ltb-false}
 use Rattle.theory.specs.Walk.{Walk, stop, move}
-use Rattle.theory.specs.Marked.{Step, by-flow, by-face, by-touch, step}
+use Rattle.theory.specs.Marked.{StepIn, by-flow, by-face, by-touch, step}
 use Rattle.theory.specs.Trail.{Trail, trailSteps, trailStates}
 use Rattle.theory.specs.Labels.{LabelledSystem, LabelledLaws, ClosedLabelWalk, labelKind, labelEdge, leastLabel, closedWalkLabels}
 use Rattle.theory.specs.Replay.{Move, flow-by, face-to, touch-to, MoveReplays, flow-replays, face-replays, touch-replays, Replay, done, then, Passes, moveKind, moveEdge, target, moveReplays, replays, replayEnd, replayStates, passes, ourMove, movesAlong, ourMoves}
@@ -84,7 +84,7 @@ module _ (P : LabelledSystem) (M : LabelledLaws P) where
   move-step : {p q : ℕ} {m : Move} → p < P .system .size → MoveReplays P p m q → step (P .system) p q ≡ true
   move-step {p} {q} b r = is-step (P .system) (M .laws) p q (by r)
     where
-      by : {m : Move} → MoveReplays P p m q → Step (P .system) p q
+      by : {m : Move} → MoveReplays P p m q → StepIn (P .system) p q
       by (flow-replays {x = x} (a, c, d)) = by-flow (rw c at (M .next-flow x p a b (rw c d)))
       by (face-replays e) = by-face e
       by (touch-replays {xs = xs} n w) = by-touch n (closed-label-walk P M xs q w)
@@ -119,7 +119,7 @@ module _ (P : LabelledSystem) (M : LabelledLaws P) where
       (λ b f. face-replays f)
       (λ b n. by b n (step-is (P .system) (M .laws) p q e))
     where
-      by : P .labels ≤ leastLabel P p q → P .system .face p q ≡ false → Step (P .system) p q → MoveReplays P p (touch-to q (closedWalkLabels P q)) q
+      by : P .labels ≤ leastLabel P p q → P .system .face p q ≡ false → StepIn (P .system) p q → MoveReplays P p (touch-to q (closedWalkLabels P q)) q
       by b n (by-flow f) = absurd (omega (arith, flow-label P M p q f))
       by b n (by-face f) = absurd (true≢false (sym f ∙ n))
       by b n (by-touch f o) = touch-replays f (closed-labels-close P M q o)

@@ -2,7 +2,7 @@
 use mathlib.Core.Path.{_≡_}
 use mathlib.Core.Bool.{true}
 use Prim.Native.Nat.{ℕ}
-use Rattle.theory.specs.System.{System, Reaches, OnClosedWalk}
+use Rattle.theory.specs.System.{System, Reaches, OnClosedWalkIn}
 use Rattle.theory.specs.Height.{Falls, none, level, down, IsHeight}
 use Rattle.theory.proofs.Walk.{walk-map}
 
@@ -13,7 +13,7 @@ FlowIn Y Z = (p q : ℕ) → Y .flow p q ≡ true → Z .flow p q ≡ true
 reaches-as : (Y Z : System) → FlowIn Y Z → (p q : ℕ) → Reaches Y p q → Reaches Z p q
 reaches-as Y Z f p q (l, w) = (l, walk-map f w)
 
-pub closed-as : (Y Z : System) → FlowIn Y Z → (p : ℕ) → OnClosedWalk Y p → OnClosedWalk Z p
+pub closed-as : (Y Z : System) → FlowIn Y Z → (p : ℕ) → OnClosedWalkIn Y p → OnClosedWalkIn Z p
 closed-as Y Z f p (q, l, w) = (q, l, walk-map f w)
 
 falls-as : (Y Z : System) → FlowIn Y Z → FlowIn Z Y → {p d : ℕ} → Falls Y p d → Falls Z p d

@@ -10,8 +10,8 @@ use lib.ListN.{length, getD}
 use lib.Dec.{eqb}
 use Rattle.theory.specs.Below.{bit}
 use Rattle.theory.specs.Walk.{Walk, stop, move}
-use Rattle.theory.specs.System.{System, Laws, OnClosedWalk}
-use Rattle.theory.specs.Marked.{by-flow, by-face, by-touch, Marked, begin, onward, marks}
+use Rattle.theory.specs.System.{System, Laws, OnClosedWalkIn}
+use Rattle.theory.specs.Marked.{by-flow, by-face, by-touch, MarkedIn, begin, onward, marks}
 use Rattle.theory.specs.Height.{IsHeight, height}
 use Rattle.theory.specs.Sheet.{SheetRules, inOf, heightOf, Sheet, keeps, sheetTest, number, ourSheet}
 use Rattle.theory.proofs.Below.{true-unless-false, false-unless-true, bit-le, tab-length, tab-all, either, test↔, leb↔, ltb↔, eqb↔, not↔, and↔, or↔, imp↔, any↔, all↔}
@@ -27,10 +27,10 @@ module _ (Y : System) (isIn : ℕ → Bool) (h : ℕ → ℕ) (K : SheetRules Y 
   walk-no-rise (move {p = p} {q = q} e w) = omega (arith, walk-no-rise w, K .no-rise p q e)
 
   -- an out-state near an in-state is on no closed walk
-  no-closed-walk : (p q : ℕ) → isIn p ≡ true → isIn q ≡ false → Y .near p q ≡ true → ¬ OnClosedWalk Y q
+  no-closed-walk : (p q : ℕ) → isIn p ≡ true → isIn q ≡ false → Y .near p q ≡ true → ¬ OnClosedWalkIn Y q
   no-closed-walk p q i o n (x, l, w) = let (e, v) = walk-first w in omega (arith, K .lower p q x i o n e, walk-no-rise v)
 
-  pub rules-marked : {s : ℕ} → Marked Y s → isIn s ≡ true
+  pub rules-marked : {s : ℕ} → MarkedIn Y s → isIn s ≡ true
   rules-marked begin = K .start-in
   rules-marked (onward {p = p} {q = q} m (by-flow e)) = K .flow-in p q (rules-marked m) e
   rules-marked (onward {p = p} {q = q} m (by-face e)) = K .face-in p q (rules-marked m) e
@@ -39,7 +39,7 @@ module _ (Y : System) (isIn : ℕ → Bool) (h : ℕ → ℕ) (K : SheetRules Y 
 -- ---- complete
 
 module _ (Y : System) (L : Laws Y) where
-  pub rules-complete : ((s : ℕ) → Marked Y s → Y .forbidden s ≡ false) → SheetRules Y (marks Y) (height Y)
+  pub rules-complete : ((s : ℕ) → MarkedIn Y s → Y .forbidden s ≡ false) → SheetRules Y (marks Y) (height Y)
   rules-complete g = record {
     start-in = is-marks Y L (Y .start) begin;
     flow-in = λ p q i e. is-marks Y L q (onward (marks-is Y L p i) (by-flow e));
@@ -169,9 +169,9 @@ module _ (Y : System) (L : Laws Y) where
 
   -- 01: "Our sheet holds the marked set; the height is the most times that a walk of time and jump steps from the state takes a step it can't
   -- return from."
-  pub our-sheet-holds : (p : ℕ) → p < Y .size → ((inOf (ourSheet Y) p ≡ true) ↔ Marked Y p) × IsHeight Y p (heightOf (ourSheet Y) p)
+  pub our-sheet-holds : (p : ℕ) → p < Y .size → ((inOf (ourSheet Y) p ≡ true) ↔ MarkedIn Y p) × IsHeight Y p (heightOf (ourSheet Y) p)
   our-sheet-holds p b = (
-    subst (λ (i : Bool). (i ≡ true) ↔ Marked Y p) (sym (our-sheet-in p)) (marks-law Y L p),
+    subst (λ (i : Bool). (i ≡ true) ↔ MarkedIn Y p) (sym (our-sheet-in p)) (marks-law Y L p),
     subst (λ (h : ℕ). IsHeight Y p h) (sym (our-sheet-height p)) (height-law Y L p b),
   )
 
@@ -179,7 +179,7 @@ module _ (Y : System) (L : Laws Y) where
   unfolding ourSheet
   our-sheet-long = tab-length (Y .size) (number Y)
 
-  pub our-sheet-passes : ((s : ℕ) → Marked Y s → Y .forbidden s ≡ false) → Sheet Y (ourSheet Y)
+  pub our-sheet-passes : ((s : ℕ) → MarkedIn Y s → Y .forbidden s ≡ false) → Sheet Y (ourSheet Y)
   our-sheet-passes g = record {
     long = our-sheet-long;
     bounded = λ p b. rw (sheet-at p) (number-le p b);

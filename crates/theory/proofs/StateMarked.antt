@@ -52,7 +52,7 @@ module _ (m : Automaton) (locations : ℕ) (W : Within m locations) (kept : Capp
   first-state (q ∷ l) c w = (q, l, w)
 
   pub on-closed-walk-law : (p : ℕ) → p < stateCount m locations
-      → system.OnClosedWalk (systemOf m locations) p ↔ OnClosedWalk m (locationOf m p) (regionOf m p)
+      → system.OnClosedWalkIn (systemOf m locations) p ↔ OnClosedWalk m (locationOf m p) (regionOf m p)
   unfolding systemOf
   on-closed-walk-law p h = (
     λ (q, l, w). (length l, walk-states w),
@@ -64,7 +64,7 @@ module _ (m : Automaton) (locations : ℕ) (W : Within m locations) (kept : Capp
   -- ---- the marked set
 
   -- a step on numbers is one on states
-  step-states : {p q : ℕ} → marked.Step (systemOf m locations) p q → Step m (locationOf m p) (regionOf m p) (locationOf m q) (regionOf m q)
+  step-states : {p q : ℕ} → marked.StepIn (systemOf m locations) p q → Step m (locationOf m p) (regionOf m p) (locationOf m q) (regionOf m q)
   unfolding systemOf
   step-states {p} {q} (marked.by-flow e) = Step.flow (flow-is m locations p q e .2)
   step-states {p} {q} (marked.by-face e) =
@@ -78,7 +78,7 @@ module _ (m : Automaton) (locations : ℕ) (W : Within m locations) (kept : Capp
       (Step.touch a (subst (λ k. Allowed m k (regionOf m q)) (sym s) d) (shares-law (regionOf m p) (regionOf m q) .0 t)
       (subst (λ k. OnClosedWalk m k (regionOf m q)) (sym s) o))
 
-  marked-states : {p : ℕ} → marked.Marked (systemOf m locations) p → Marked m (locationOf m p) (regionOf m p)
+  marked-states : {p : ℕ} → marked.MarkedIn (systemOf m locations) p → Marked m (locationOf m p) (regionOf m p)
   unfolding systemOf
   marked-states marked.begin =
       let a = start-allowed kept (m .start) in
@@ -87,7 +87,7 @@ module _ (m : Automaton) (locations : ℕ) (W : Within m locations) (kept : Capp
 
   -- and the other way
   step-numbers : {l k : ℕ} {xs ys : Region} → l < locations → Step m l xs k ys
-      → (k < locations) × Allowed m k ys × marked.Step (systemOf m locations) (numberOf m l xs) (numberOf m k ys)
+      → (k < locations) × Allowed m k ys × marked.StepIn (systemOf m locations) (numberOf m l xs) (numberOf m k ys)
   unfolding systemOf
   step-numbers b (Step.flow f) = (flow-target m locations W b f, flow-allowed m locations W f .1, marked.by-flow (is-flow m locations W b f))
   step-numbers {xs = xs} b (Step.face {ys = ys} a c f) =
@@ -99,7 +99,7 @@ module _ (m : Automaton) (locations : ℕ) (W : Within m locations) (kept : Capp
       (b, c, marked.by-touch (is-beside m locations W shares b a c (shares-law xs ys .1 s)) (on-closed-walk-law (numberOf m l ys) n .1 o))
 
   -- each marked state is allowed, in a location, and its number is marked
-  pub marked-numbers : {l : ℕ} {xs : Region} → Marked m l xs → (l < locations) × Allowed m l xs × marked.Marked (systemOf m locations) (numberOf m l xs)
+  pub marked-numbers : {l : ℕ} {xs : Region} → Marked m l xs → (l < locations) × Allowed m l xs × marked.MarkedIn (systemOf m locations) (numberOf m l xs)
   unfolding systemOf
   marked-numbers Marked.begin = (W .start, start-allowed kept (m .start), marked.begin)
   marked-numbers (Marked.onward c t) =
@@ -108,8 +108,8 @@ module _ (m : Automaton) (locations : ℕ) (W : Within m locations) (kept : Capp
       (d, e, marked.onward n s)
 
   -- the marked numbers are the marked states
-  pub marked-law : (p : ℕ) → p < stateCount m locations → marked.Marked (systemOf m locations) p ↔ Marked m (locationOf m p) (regionOf m p)
-  marked-law p h = (marked-states, λ c. subst (λ n. marked.Marked (systemOf m locations) n) (number-of-parts m locations p h) (marked-numbers c .2))
+  pub marked-law : (p : ℕ) → p < stateCount m locations → marked.MarkedIn (systemOf m locations) p ↔ Marked m (locationOf m p) (regionOf m p)
+  marked-law p h = (marked-states, λ c. subst (λ n. marked.MarkedIn (systemOf m locations) n) (number-of-parts m locations p h) (marked-numbers c .2))
 
   -- ---- the verdict
 

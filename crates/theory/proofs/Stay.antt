@@ -90,7 +90,7 @@ ranked-between : (v : List ℕ) (r : ℕ) → 1 ≤ r → r ≤ topRank (between
 ranked-between [] r h k = absurd (omega arith)
 ranked-between (x ∷ v) r h k = let e : r ≡ 1 = omega (arith, top-between v) in rw e
 
-under-ceiling : {m : Automaton} → Capped m → (l : ℕ) {xs : Region} → Fits xs (m .invariant l) → Fits xs (replicate (m .clocks) (m .ceiling))
+pub under-ceiling : {m : Automaton} → Capped m → (l : ℕ) {xs : Region} → Fits xs (m .invariant l) → Fits xs (replicate (m .clocks) (m .ceiling))
 under-ceiling kept l f = each-chain (λ x c d a b. omega arith) f (kept .limits l)
 
 pub allowed-point : {m : Automaton} → Capped m → (l : ℕ) {v : List ℕ} → Upto 1 0 1 v (m .invariant l) → Allowed m l (point v)
@@ -109,11 +109,11 @@ allowed-between kept l v h =
 
 -- ---- runs
 
-elapse-zero : (v : List ℕ) → elapse 0 v ≡ v
+pub elapse-zero : (v : List ℕ) → elapse 0 v ≡ v
 elapse-zero [] = refl
 elapse-zero (x ∷ v) = ap₂ _∷_ (add-zero x) (elapse-zero v)
 
-elapse-suc : (d : ℕ) (v : List ℕ) → elapse (suc d) v ≡ elapse 1 (elapse d v)
+pub elapse-suc : (d : ℕ) (v : List ℕ) → elapse (suc d) v ≡ elapse 1 (elapse d v)
 elapse-suc d [] = refl
 elapse-suc d (x ∷ v) = let e : x + suc d ≡ x + d + 1 = omega arith in ap₂ _∷_ e (elapse-suc d v)
 

@@ -1,4 +1,4 @@
--- Laws of a system's walks: `reach` tells `Reaches`, `onClosedWalk` tells `OnClosedWalk`.
+-- Laws of a system's walks: `reach` tells `Reaches`, `onClosedWalk` tells `OnClosedWalkIn`.
 use mathlib.Core.Path.{_≡_, refl, sym, _∙_}
 use mathlib.Core.Bool.{Bool, true, false, true≢false}
 use mathlib.Core.Logic.{_↔_, _⊎_, inl, inr}
@@ -8,7 +8,7 @@ use lib.ListN.{length}
 use lib.Dec.{eqb}
 use borrow.Author.Tests.{eqb-true, eq-eqb}
 use Rattle.theory.specs.Walk.{Walk, stop, move, Inside, Into}
-use Rattle.theory.specs.System.{System, Laws, Joins, Reaches, OnClosedWalk, reach, onClosedWalk}
+use Rattle.theory.specs.System.{System, Laws, Joins, Reaches, OnClosedWalkIn, reach, onClosedWalk}
 use Rattle.theory.proofs.Below.{any-and-intro, any-and-elim, either}
 use Rattle.theory.proofs.Walk.{walk-append, walk-first, within-walk, short}
 
@@ -56,19 +56,19 @@ module _ (Y : System) (L : Laws Y) where
 
   -- ---- `onClosedWalk`
 
-  pub closed-walk-is : (p : ℕ) → onClosedWalk Y p ≡ true → OnClosedWalk Y p
+  pub closed-walk-is : (p : ℕ) → onClosedWalk Y p ≡ true → OnClosedWalkIn Y p
   unfolding onClosedWalk
   closed-walk-is p e =
       let (q, b, f, g) = any-and-elim (Y .size) (Y .flow p) (λ q. reach Y q p) e in
       let w = reach-is q p g in
       (q, w .0, move f (w .1))
 
-  pub is-closed-walk : (p : ℕ) → OnClosedWalk Y p → onClosedWalk Y p ≡ true
+  pub is-closed-walk : (p : ℕ) → OnClosedWalkIn Y p → onClosedWalk Y p ≡ true
   unfolding onClosedWalk
   is-closed-walk p (q, l, w) =
       let (e, v) = walk-first w in
       let b = flow-inside p q e .1 in
       any-and-intro (Y .size) (Y .flow p) (λ q. reach Y q p) q b e (is-reach q p b (l, v))
 
-  pub closed-walk-law : (p : ℕ) → (onClosedWalk Y p ≡ true) ↔ OnClosedWalk Y p
+  pub closed-walk-law : (p : ℕ) → (onClosedWalk Y p ≡ true) ↔ OnClosedWalkIn Y p
   closed-walk-law p = (closed-walk-is p, is-closed-walk p)

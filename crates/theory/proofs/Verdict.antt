@@ -6,7 +6,7 @@ use mathlib.Core.Logic.{_↔_, _⊎_, inl, inr, ⊎-elim}
 use mathlib.Core.List.{List}
 use Prim.Native.Nat.{ℕ}
 use Rattle.theory.specs.System.{System, Laws}
-use Rattle.theory.specs.Marked.{Marked, Unsafe, unsafe}
+use Rattle.theory.specs.Marked.{MarkedIn, Unsafe, unsafe}
 use Rattle.theory.specs.Sheet.{Sheet, inOf, heightOf, sheetTest, ourSheet}
 use Rattle.theory.specs.Labels.{LabelledSystem, LabelledLaws}
 use Rattle.theory.specs.Replay.{Move, Passes, replayStates, passes, ourMoves}
@@ -20,14 +20,14 @@ use Rattle.theory.proofs.Replay.{passes-law, passes-trail, our-moves-pa
 
 module _ (Y : System) (L : Laws Y) where
   -- a passing sheet has every marked state in, and none of them is forbidden
-  pub sheet-sound : (l : List ℕ) → sheetTest Y l ≡ true → (s : ℕ) → Marked Y s → (inOf l s ≡ true) × (Y .forbidden s ≡ false)
+  pub sheet-sound : (l : List ℕ) → sheetTest Y l ≡ true → (s : ℕ) → MarkedIn Y s → (inOf l s ≡ true) × (Y .forbidden s ≡ false)
   sheet-sound l e s m =
       let K = sheet-is Y L l e .rules in
       let i = rules-marked Y (inOf l) (heightOf l) K m in
       (i, K .none-forbidden s (L .allowed-below s (marked-allowed Y L m)) i)
 
   -- where no marked state is forbidden, ours passes
-  pub sheet-complete : ((s : ℕ) → Marked Y s → Y .forbidden s ≡ false) → sheetTest Y (ourSheet Y) ≡ true
+  pub sheet-complete : ((s : ℕ) → MarkedIn Y s → Y .forbidden s ≡ false) → sheetTest Y (ourSheet Y) ≡ true
   sheet-complete g = is-sheet Y L (ourSheet Y) (our-sheet-passes Y L g)
 
   pub sheet-safe : (l : List ℕ) → sheetTest Y l ≡ true → unsafe Y ≡ false

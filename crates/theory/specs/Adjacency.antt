@@ -3,7 +3,7 @@ use mathlib.Core.Path.{_≡_}
 use mathlib.Core.Bool.{Bool, true}
 use mathlib.Core.Logic.{_↔_}
 use mathlib.Core.List.{List, [], _∷_, List·Memᴰ}
-use Prim.Native.Nat.{ℕ, suc, _+_, _*_, _≤_, _<_}
+use Prim.Native.Nat.{ℕ, suc, _+_, _≤_, _<_}
 use lib.ListN.{length, getD}
 
 -- ---- successors: those of node p stand in `targets`, from place `first p` up to place `first (p + 1)`
@@ -14,6 +14,13 @@ pub record Adjacent (first targets : List ℕ) (p q : ℕ) : Type 0 where
   pub after : getD first p 0 ≤ place
   pub before : place < getD first (suc p) 0
   pub is : getD targets place 0 ≡ q
+
+-- the shape of such lists for the nodes below n
+pub record Rows (first targets : List ℕ) (n : ℕ) : Type 0 where
+  pub long : length first ≡ n + 1
+  pub ascends : (p : ℕ) → p < n → getD first p 0 ≤ getD first (p + 1) 0
+  pub ends : getD first n 0 ≤ length targets
+  pub below : (i : ℕ) → i < getD first n 0 → getD targets i 0 < n
 
 -- two lists hold the graph of a relation on the nodes below n
 pub record Holds (first targets : List ℕ) (n : ℕ) (r : ℕ → ℕ → Bool) : Type 0 where
@@ -35,13 +42,3 @@ pub record Chains (held head link : List ℕ) : Type 0 where
   pub long : length link ≡ length held
   pub chain : (v : ℕ) → v < length head
       → (l : List ℕ) × Chain link (getD head v 0) l × ((s : ℕ) → List·Memᴰ s l ↔ ((s < length held) × (getD held s 0 ≡ v)))
-
--- ---- corners: slot 4 * i + k, k below 4, holds the number of a whole point that is a corner of region i
-
--- two regions have one in common
-pub record ShareCorner (corner : List ℕ) (i j : ℕ) : Type 0 where
-  pub left : ℕ
-  pub right : ℕ
-  pub left-below : left < 4
-  pub right-below : right < 4
-  pub same : getD corner (4 * i + left) 0 ≡ getD corner (4 * j + right) 0

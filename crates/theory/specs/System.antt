@@ -44,8 +44,8 @@ Reaches Y p q = (l : List ℕ) × Walk (Y .flow) p q l
 
 -- 01: "A closed walk has one or more edges (or steps) and ends at its beginning"; this one is "of time and jump steps (never face or touch)".
 -- The first step leads to q.
-abbrev pub OnClosedWalk : System → ℕ → Type 0
-OnClosedWalk Y p = (q : ℕ) × (l : List ℕ) × Walk (Y .flow) p p (q ∷ l)
+abbrev pub OnClosedWalkIn : System → ℕ → Type 0
+OnClosedWalkIn Y p = (q : ℕ) × (l : List ℕ) × Walk (Y .flow) p p (q ∷ l)
 
 -- ---- what computes it
 
@@ -53,6 +53,6 @@ OnClosedWalk Y p = (q : ℕ) × (l : List ℕ) × Walk (Y .flow) p p (q ∷ l)
 unfoldable pub reach : System → ℕ → ℕ → Bool
 reach Y p q = within (Y .size) (Y .flow) (λ x. eqb x q) (Y .size) p
 
--- `OnClosedWalk`: a step, and a way back
+-- `OnClosedWalkIn`: a step, and a way back
 unfoldable pub onClosedWalk : System → ℕ → Bool
 onClosedWalk Y p = any (Y .size) (λ q. Y .flow p q && reach Y q p)

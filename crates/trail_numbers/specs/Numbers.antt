@@ -6,6 +6,7 @@ use lib.Dec.{eqb}
 use Rattle.number.specs.declared.Number.{Number}
 use Rattle.number.specs.Number.{onNumber}
 use Rattle.evidence_number.specs.Evidence.{readEvidence}
+use Rattle.evidence_number.specs.Numbers.{Numbers, got, refused, onNumbers}
 use Rattle.number.specs.declared.Number.the-variants as number
 
 -- ---- the steps of a walk, "made of kinds 0 and 1"
@@ -23,14 +24,6 @@ unfoldable pub labelAt : List ℕ → ℕ → Number
 labelAt bs at = onNumber (readEvidence bs at) (λ kind to. kindLabel kind to (readEvidence bs to)) number.Refused
 
 -- ---- k numbers and the offset after them, or the refusal
-
-pub data Numbers : Type 0 where
-  got : List ℕ → ℕ → Numbers
-  refused : ℕ → Numbers
-
-abbrev pub onNumbers : {A : Type 0} → Numbers → (List ℕ → ℕ → A) → (ℕ → A) → A
-onNumbers (got vs to) go stop = go vs to
-onNumbers (refused r) go stop = stop r
 
 unfoldable pub numbersAt : List ℕ → ℕ → ℕ → Numbers
 numbersAt bs zero at = got [] at

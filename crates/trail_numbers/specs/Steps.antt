@@ -11,7 +11,8 @@ use Rattle.trail_numbers.specs.declared.Step.{Step}
 use Rattle.trail_numbers.specs.declared.Step.the-variants.{Time, Jump, Face, Touch}
 use Rattle.trail_numbers.specs.declared.Three.{Three}
 use Rattle.trail_numbers.specs.declared.Reading.{Reading}
-use Rattle.trail_numbers.specs.Numbers.{Numbers, got, refused, numbersAt}
+use Rattle.evidence_number.specs.Numbers.{Numbers, got, refused}
+use Rattle.trail_numbers.specs.Numbers.{numbersAt}
 use Rattle.trail_numbers.specs.declared.Three.the-variants as three
 use Rattle.trail_numbers.specs.declared.Reading.the-variants as reading
 

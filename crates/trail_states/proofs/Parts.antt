@@ -8,7 +8,7 @@ use Rattle.shapes.specs.Layout.{cornersIn}
 use Rattle.theory.specs.Adjacency.{Adjacent}
 use Rattle.search.specs.Least.{LeastOf, At}
 use Rattle.search.proofs.Scan.{partly-first, partly-turn, partly-end}
-use Rattle.marking.specs.Tables.{RegionTables, Leads, to-successor}
+use Rattle.marking.specs.Tables.{RegionTables, Successor, to-successor}
 use Rattle.marking.specs.Corners.{Touches}
 use Rattle.marking.proofs.Leading.{FacesOf, face-part, touch-part, lead-parts}
 
@@ -16,9 +16,9 @@ pub leads-least : {S R : ℕ} {first targets shapes heights distance : List ℕ}
     → LeastOf (At distance y (Adjacent first targets p)) n a
     → LeastOf (At distance y (FacesOf R shapes (p / R * R) (p % R))) a b
     → LeastOf (At distance y (Touches (cornersIn R shapes) heights (p / R * R) (p % R) 0)) b c
-    → LeastOf (At distance y (Leads R first targets shapes heights p)) n c
+    → LeastOf (At distance y (Successor R first targets shapes heights p)) n c
 leads-least {S} {R} {first} {targets} {shapes} {heights} {distance} Z p {y} A B D =
-    let I = partly-turn (partly-first {T = At distance y (Leads R first targets shapes heights p)}) A
+    let I = partly-turn (partly-first {T = At distance y (Successor R first targets shapes heights p)}) A
     (λ q t. record { has = t .has; is = to-successor (t .is) })
     (λ q t. ⊎-elim (λ s. inl (record { has = t .has; is = s })) (λ s. inr (later q (t .has) s)) (lead-parts Z p q (t .is))) in
     let J = partly-turn I B (λ q t. record { has = t .has; is = face-part Z p q (t .is) }) (λ q s. s) in

@@ -12,7 +12,7 @@ use Rattle.theory.specs.Trail.{trailSteps, trailStates}
 use Rattle.theory.proofs.Levels.{far-inside}
 use Rattle.search.specs.Flags.{Aims}
 use Rattle.search.proofs.Rounds.{upto-all}
-use Rattle.marking.specs.Tables.{RegionTables, Leads}
+use Rattle.marking.specs.Tables.{RegionTables, Successor}
 use Rattle.marking.proofs.Steps.{steps-agree}
 use Rattle.trail_states.specs.Told.{Told}
 
@@ -23,7 +23,7 @@ module _ {Y : System} {steps start R : ℕ} {first targets shapes heights kind d
   steps-dist = K .fewest
 
   pub told-aims : RegionTables (length distance) R shapes heights → steps < length distance
-      → Aims (Leads R first targets shapes heights) (λ z. getD kind (z / R) 0 ≡ 1) start (steps + 1) distance (step Y) (Y .forbidden)
+      → Aims (Successor R first targets shapes heights) (λ z. getD kind (z / R) 0 ≡ 1) start (steps + 1) distance (step Y) (Y .forbidden)
   told-aims Z short =
       let G = steps-agree Y (K .laws) (rw (← K .size) at Z) (K .tables) in
       record {

@@ -6,7 +6,7 @@ ghost use lib.ListN.{length, getD};
 ghost use Rattle.limits.specs.Limits.{maxStates};
 ghost use Rattle.search.specs.Queue.{reachedCount, ByLevel};
 ghost use Rattle.search.specs.Flags.{Ahead, Tried, FlagsOf};
-ghost use Rattle.marking.specs.Tables.{Shape, Leads};
+ghost use Rattle.marking.specs.Tables.{SearchTables, Successor};
 use super::next::least_next;
 use limits::LEVEL_FLAG;
 use limits::Word;
@@ -26,10 +26,10 @@ fn flag_state(
 )
     requires { ⌜
         (p < length (now distance)) × (length (now distance) ≤ length (now kind) * regions) × (getD (now distance) p 0 ≤ maxStates)
-        × Shape (length (now distance)) regions (now first) (now targets) (now shapes) (now heights)
+        × SearchTables (length (now distance)) regions (now first) (now targets) (now shapes) (now heights)
         ⌝ }
     ensures { λ _. ⌜
-        Tried (Ahead (Leads regions (now (first .entry)) (now (targets .entry)) (now (shapes .entry)) (now (heights .entry)))
+        Tried (Ahead (Successor regions (now (first .entry)) (now (targets .entry)) (now (shapes .entry)) (now (heights .entry)))
         (λ z. getD (now (kind .entry)) (z / regions) 0 ≡ 1) x (now (distance .entry))) p (now (distance .entry)) (now (distance .exit))
         ⌝ }
 {
@@ -72,11 +72,11 @@ pub fn flag_all(
 )
     requires { ⌜
         (length (now distance) ≤ length (now kind) * regions) × ByLevel (now distance) (now queue) (reachedCount (now distance))
-        × Shape (length (now distance)) regions (now first) (now targets) (now shapes) (now heights)
+        × SearchTables (length (now distance)) regions (now first) (now targets) (now shapes) (now heights)
         ⌝ }
     ensures { λ _. ⌜
         ((start : ℕ)
-        → FlagsOf (Leads regions (now (first .entry)) (now (targets .entry)) (now (shapes .entry)) (now (heights .entry)))
+        → FlagsOf (Successor regions (now (first .entry)) (now (targets .entry)) (now (shapes .entry)) (now (heights .entry)))
         (λ z. getD (now (kind .entry)) (z / regions) 0 ≡ 1) start x (now (distance .entry)) (now (distance .exit)))
         ⌝ }
 {

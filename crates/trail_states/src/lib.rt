@@ -9,7 +9,7 @@ ghost use Rattle.theory.specs.System.{System};
 ghost use Rattle.theory.specs.Trail.{trailStates};
 ghost use Rattle.search.specs.Queue.{reachedCount, ByLevel};
 ghost use Rattle.search.specs.Flags.{Steered};
-ghost use Rattle.marking.specs.Tables.{Shape, Leads};
+ghost use Rattle.marking.specs.Tables.{SearchTables, Successor};
 ghost use Rattle.trail_states.specs.Told.{Told};
 use limits::LEVEL_FLAG;
 use limits::Word;
@@ -34,11 +34,11 @@ fn follow(
 )
     requires { ⌜
         (steps < length (now distance)) × (start < length (now distance)) × (steps ≤ length (now path))
-        × Shape (length (now distance)) regions (now first) (now targets) (now shapes) (now heights)
+        × SearchTables (length (now distance)) regions (now first) (now targets) (now shapes) (now heights)
         ⌝ }
     ensures { λ _. ⌜
         ((r : ℕ → ℕ → Bool) (goal : ℕ → Bool)
-        → Steered (Leads regions (now (first .entry)) (now (targets .entry)) (now (shapes .entry)) (now (heights .entry)))
+        → Steered (Successor regions (now (first .entry)) (now (targets .entry)) (now (shapes .entry)) (now (heights .entry)))
         start steps (now (distance .entry)) r goal
         → take steps (now (path .exit)) ≡ greedy (length (now (distance .entry))) r goal steps start)
         ⌝ }
@@ -84,7 +84,7 @@ pub fn trail_states(
     requires { ⌜
         (steps < length (now distance)) × (start < length (now distance)) × (steps ≤ length (now path))
         × (length (now distance) ≤ length (now kind) * regions) × ByLevel (now distance) (now queue) (reachedCount (now distance))
-        × Shape (length (now distance)) regions (now first) (now targets) (now shapes) (now heights)
+        × SearchTables (length (now distance)) regions (now first) (now targets) (now shapes) (now heights)
         ⌝ }
     ensures { λ _. ⌜
         (now (distance .exit) ≡ now (distance .entry))

@@ -5,9 +5,9 @@ ghost use Prim.Native.Nat.{_+_, _*_, _%_, _≤_, _<_};
 ghost use lib.ListN.{length, getD};
 ghost use Rattle.limits.specs.Limits.{maxStates, pointCount};
 ghost use Rattle.shapes.specs.Layout.{rowsIn, facesIn, cornersIn};
-ghost use Rattle.search.specs.Queue.{Listed};
+ghost use Rattle.search.specs.Queue.{InList};
 ghost use Rattle.search.specs.Least.{LeastOf, At};
-ghost use Rattle.marking.specs.Tables.{Faces, RegionTables, Shape, Leads};
+ghost use Rattle.marking.specs.Tables.{Faces, RegionTables, SearchTables, Successor};
 ghost use Rattle.marking.specs.Corners.{AtPoint, Touches};
 use limits::SLOTS;
 use limits::Word;
@@ -36,7 +36,7 @@ fn least_face(
         ⌝ }
     ensures { λ r. ⌜
         LeastOf (At (now (distance .entry)) y
-        (Listed (facesIn regions (now (shapes .entry))) (location * regions) (getD (rowsIn regions (now (shapes .entry))) i 0)
+        (InList (facesIn regions (now (shapes .entry))) (location * regions) (getD (rowsIn regions (now (shapes .entry))) i 0)
         (getD (rowsIn regions (now (shapes .entry))) (i + 1) 0))) best r
         ⌝ }
 {
@@ -143,11 +143,11 @@ pub fn least_next(
 ) -> usize
     requires { ⌜
         (p < length (now distance))
-        × Shape (length (now distance)) regions (now first) (now targets) (now shapes) (now heights)
+        × SearchTables (length (now distance)) regions (now first) (now targets) (now shapes) (now heights)
         ⌝ }
     ensures { λ r. ⌜
         LeastOf (At (now (distance .entry)) y
-        (Leads regions (now (first .entry)) (now (targets .entry)) (now (shapes .entry)) (now (heights .entry)) p))
+        (Successor regions (now (first .entry)) (now (targets .entry)) (now (shapes .entry)) (now (heights .entry)) p))
         (length (now (distance .entry))) r
         ⌝ }
 {

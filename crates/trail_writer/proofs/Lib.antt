@@ -1,4 +1,2 @@
--- Where a label leads, and the least label between two states.
-pub mod Least
--- Labels, walks and regions, number by number.
-pub mod Written
+-- The moves of our trail, spelled part by part.
+pub mod Moves

@@ -5,13 +5,13 @@ use Prim.Native.Nat.{_-_, _≤_}
 use mathlib.Core.Path.{_≡_, refl, _∙_}
 use lib.ListN.{length, length-set}
 use Rattle.component.proofs.Scans.{filled-first, filled-more, filled-all}
-use Rattle.component.specs.Scan.{Filled}
+use Rattle.component.specs.Scan.{Painted}
 use Rattle.component.specs.Stack.{at}
 use Rattle.component.proofs.fill.Statement.{statement}
 use Rattle.component.proofs.fill.Tie as tie
 
 abbrev Inv-loop : tie.InvT-loop
-Inv-loop mark₀ stack a top x p₀ mark p = (a ≤ p) × (p ≤ top) × (length mark ≡ length mark₀) × Filled (at mark₀) (at mark) (at stack) a p x
+Inv-loop mark₀ stack a top x p₀ mark p = (a ≤ p) × (p ≤ top) × (length mark ≡ length mark₀) × Painted (at mark₀) (at mark) (at stack) a p x
 
 abbrev μ-loop : tie.MeasureT-loop
 μ-loop mark₀ stack a top x p₀ mark p = top - p

@@ -4,7 +4,7 @@ use native.Mathlib.Omega.{arith}
 use borrow.Author.Needs.{needs}
 use Rattle.evidence_writer.specs.declared.Written.{Written}
 use Rattle.op_write.specs.Write.{writtenAnswer}
-use Rattle.drift_c.specs.Words.{writeWord, Room}
+use Rattle.drift_c.specs.Words.{writeWord, BytesFit}
 use Rattle.drift_c.proofs.Fields.{written-word-is, write-refused-is}
 use Rattle.drift_c.proofs.write_word.Statement.{statement}
 use Rattle.drift_c.proofs.write_word.Tie as tie
@@ -14,18 +14,18 @@ enum-known-answer c = search needs
 
 mul-result : tie.Need-mul-result
 unfolding writtenAnswer
-mul-result c = let b = subst (λ (w : Written). Room (writtenAnswer w)) (c .before .answer .given .1) (c .before .before .before .pre) .few in omega (arith, b)
+mul-result c = let b = subst (λ (w : Written). BytesFit (writtenAnswer w)) (c .before .answer .given .1) (c .before .before .before .pre) .few in omega (arith, b)
 
 enum-known-answer-2 : tie.Need-enum-known-answer-2
 enum-known-answer-2 c = search needs
 
 mul-result-2 : tie.Need-mul-result-2
 unfolding writtenAnswer
-mul-result-2 c = let b = subst (λ (w : Written). Room (writtenAnswer w)) (c .before .answer2 .given .1) (c .before .before .before .pre) .few in omega (arith, b)
+mul-result-2 c = let b = subst (λ (w : Written). BytesFit (writtenAnswer w)) (c .before .answer2 .given .1) (c .before .before .before .pre) .few in omega (arith, b)
 
 add-result : tie.Need-add-result
 unfolding writtenAnswer
-add-result c = let b = subst (λ (w : Written). Room (writtenAnswer w)) (c .before .answer2 .given .1) (c .before .before .before .pre) .few in omega (arith, b)
+add-result c = let b = subst (λ (w : Written). BytesFit (writtenAnswer w)) (c .before .answer2 .given .1) (c .before .before .before .pre) .few in omega (arith, b)
 
 enum-known-answer-3 : tie.Need-enum-known-answer-3
 enum-known-answer-3 c = search needs

@@ -4,10 +4,11 @@ use native.Mathlib.Omega.{arith}
 use mathlib.Core.Path.{sym, _∙_}
 use mathlib.Core.Bool.{true, false}
 use lib.Seq.{length-take-le}
+use Rattle.graph.proofs.Plan.{size-states}
 use Rattle.graph.specs.Plan.{systemOfModel}
 use Rattle.graph.proofs.Models.{system-laws}
 use Rattle.graph.proofs.States.{clocks-of, ceiling-of}
-use Rattle.survey.proofs.Tables.{size-states, start-product}
+use Rattle.survey.proofs.Tables.{start-product}
 use Rattle.survey.proofs.Forbidden.{kinds, forbids-by}
 use Rattle.evidence_writer.proofs.Verdict.{unsafe-by, safe-by, trail-asked, trail-told}
 use Rattle.evidence_writer.proofs.Output.{written-as}
@@ -72,7 +73,7 @@ slice-reshare-prefix-write-trail c =
     let m = start .args .m in
     let ok = start .pre .0 in
     let K = start .pre .4 in
-    omega (arith, c .before .before .before .before .trail-states .kept .1 .1 .1 .1 .1 .1 .1 .1 .1 .1 .0, start .pre .6, c .before .before .before .before .before .before .before .before .before .before .before .if1 .taken, K .surveyed .distances .long, size-states m ok)
+    omega (arith, c .before .before .before .before .trail-states .kept .1 .1 .1 .1 .1 .1 .1 .1 .1 .1 .0, start .pre .6, c .before .before .before .before .before .before .before .before .before .before .before .if1 .taken, K .surveyed .distances .long, size-states m)
 
 slice-aggregate-write-trail : tie.Need-slice-aggregate-write-trail
 slice-aggregate-write-trail c =
@@ -80,7 +81,7 @@ slice-aggregate-write-trail c =
     let m = start .args .m in
     let ok = start .pre .0 in
     let K = start .pre .4 in
-    sym (length-take-le _ _ (omega (arith, c .before .before .before .before .before .trail-states .kept .1 .1 .1 .1 .1 .1 .1 .1 .1 .1 .0, start .pre .6, c .before .before .before .before .before .before .before .before .before .before .before .before .if1 .taken, K .surveyed .distances .long, size-states m ok)))
+    sym (length-take-le _ _ (omega (arith, c .before .before .before .before .before .trail-states .kept .1 .1 .1 .1 .1 .1 .1 .1 .1 .1 .0, start .pre .6, c .before .before .before .before .before .before .before .before .before .before .before .before .if1 .taken, K .surveyed .distances .long, size-states m)))
 
 write-trail-requires : tie.Need-write-trail-requires
 write-trail-requires c κs =
@@ -97,8 +98,8 @@ write-trail-requires c κs =
         lawful = ok;
         listed = start .pre .1;
         flow = start .pre .2;
-        far-long = K .surveyed .heights .long;
-        queue-long = states .kept .1 .1 .1 .1 .1 .1 .1 .1 .0 ∙ (K .surveyed .distances .long ∙ size-states m ok);
+        level-long = K .surveyed .heights .long;
+        queue-long = states .kept .1 .1 .1 .1 .1 .1 .1 .1 .0 ∙ (K .surveyed .distances .long ∙ size-states m);
         walk-long = start .pre .5;
       },
       unsafe-by m ok (start .pre .2) (start .pre .3) K r e steps s (c .before .before .before .before .before .before .before .before .before .before .before .before .before .before .before .before .if1 .taken),

@@ -25,7 +25,7 @@ put-trail-requires-2 c κs =
         lawful = R .lawful;
         listed = R .listed;
         flow = R .flow;
-        far-long = kept .1 .1 .1 .1 .1 .0 ∙ R .far-long;
+        level-long = kept .1 .1 .1 .1 .1 .0 ∙ R .level-long;
         queue-long = kept .1 .1 .1 .1 .1 .1 .0 ∙ R .queue-long;
         walk-long = kept .1 .1 .1 .1 .1 .1 .1 .0 ∙ R .walk-long;
       },

@@ -4,26 +4,27 @@ use mathlib.Core.Path.{_≡_, refl, sym, _∙_}
 use lib.ListN.{length, length-set}
 use native.Mathlib.Omega.{arith}
 use borrow.Author.Needs.{needs}
+use Rattle.limits.proofs.Zeros.{zero-at}
 use Rattle.shapes.specs.Layout.{cornersIn}
 use Rattle.search.specs.Rounds.{Searched}
 use Rattle.search.proofs.Queue.{fits-le}
 use Rattle.search.proofs.Rounds.{searched-first, searched-next}
-use Rattle.marking.specs.Tables.{Leads}
-use Rattle.marking.specs.Corners.{Notes}
+use Rattle.marking.specs.Tables.{Successor}
+use Rattle.marking.specs.Corners.{Visits}
 use Rattle.marking.proofs.Steps.{searched-end}
 use Rattle.marking.proofs.distances.Statement.{statement}
 use Rattle.marking.proofs.distances.Tie as tie
 
 abbrev Inv-loop : tie.InvT-loop
-Inv-loop start regions first targets shapes heights distance₀ queue₀ noted₀ x₀ lo₀ hi₀ distance queue noted x lo hi =
+Inv-loop start regions first targets shapes heights distance₀ queue₀ visited₀ x₀ lo₀ hi₀ distance queue visited x lo hi =
     (length distance ≡ length distance₀)
     × (length queue ≡ length queue₀)
-    × (length noted ≡ length noted₀)
-    × Searched (Leads regions first targets shapes heights) start x lo hi distance queue
-    × Notes regions (cornersIn regions shapes) heights noted distance
+    × (length visited ≡ length visited₀)
+    × Searched (Successor regions first targets shapes heights) start x lo hi distance queue
+    × Visits regions (cornersIn regions shapes) heights visited distance
 
 abbrev μ-loop : tie.MeasureT-loop
-μ-loop start regions first targets shapes heights distance₀ queue₀ noted₀ x₀ lo₀ hi₀ distance queue noted x lo hi = length distance₀ - lo
+μ-loop start regions first targets shapes heights distance₀ queue₀ visited₀ x₀ lo₀ hi₀ distance queue visited x lo hi = length distance₀ - lo
 
 pub distances-spec : {M : Type 1} → statement M
 distances-spec =
@@ -41,13 +42,13 @@ distances-spec =
     let a = c .before .before .before .before .before .before .before .before .before .before .before .before .before .before .before .args in
     let p = c .before .before .before .before .before .before .before .before .before .before .before .before .before .before .before .pre in
     let f = c .before .before .before .before .before .before .clear in
-    (refl, refl, refl, searched-first (Leads (a .regions) (a .first .now) (a .targets .now) (a .shapes .now) (a .heights .now)) (f .last .0) (a .queue .now) (a .start) (f .ensures) (omega (arith, p .2 .tables .states, f .kept .0)) (p .1 ∙ sym (f .kept .0)) (omega (arith, f .kept .0)), record { covers = λ k h. absurd (omega (arith, c .before .before .clear-noted .ensures k)) }))
+    (refl, refl, refl, searched-first (Successor (a .regions) (a .first .now) (a .targets .now) (a .shapes .now) (a .heights .now)) (f .last .0) (a .queue .now) (a .start) (zero-at _ (f .ensures)) (omega (arith, p .2 .tables .states, f .kept .0)) (p .1 ∙ sym (f .kept .0)) (omega (arith, f .kept .0)), record { covers = λ k h. absurd (omega (arith, zero-at _ (c .before .before .clear-bytes .ensures) k)) }))
     (λ c κs.
     let l = c .before .before .before .before .loop in
     let f : length (l .distance) ≡ length (c .before .before .before .before .before .before .before .before .before .before .before .before .before .before .before .before .before .before .before .before .args .distance .now) = l .inv .0 ∙ simp length-set (c .before .before .before .before .before .before .before .before .before .before .before .clear .kept .0) in
-    let g : length (l .noted) ≡ length (c .before .before .before .before .before .before .before .before .before .before .before .before .before .before .before .before .before .before .before .before .args .noted .now) = l .inv .2 ∙ c .before .before .before .before .before .before .before .clear-noted .kept .0 in
+    let g : length (l .visited) ≡ length (c .before .before .before .before .before .before .before .before .before .before .before .before .before .before .before .before .before .before .before .before .args .visited .now) = l .inv .2 ∙ c .before .before .before .before .before .before .before .clear-bytes .kept .0 in
     let I = l .inv .3 in
-    (I .ends, rw f (c .before .before .before .before .before .before .before .before .before .before .before .before .before .before .before .before .before .before .before .before .pre .2 .flow), record { small = omega (arith, fits-le (I .fits), I .fits .limit, I .early); tables = rw f (c .before .before .before .before .before .before .before .before .before .before .before .before .before .before .before .before .before .before .before .before .pre .2 .tables); spots = rw (f, g) (c .before .before .before .before .before .before .before .before .before .before .before .before .before .before .before .before .before .before .before .before .pre .3); notes = l .inv .4; fits = I .fits }))
+    (I .ends, rw f (c .before .before .before .before .before .before .before .before .before .before .before .before .before .before .before .before .before .before .before .before .pre .2 .flow), record { small = omega (arith, fits-le (I .fits), I .fits .limit, I .early); tables = rw f (c .before .before .before .before .before .before .before .before .before .before .before .before .before .before .before .before .before .before .before .before .pre .2 .tables); spots = rw (f, g) (c .before .before .before .before .before .before .before .before .before .before .before .before .before .before .before .before .before .before .before .before .pre .3); visits = l .inv .4; fits = I .fits }))
     (λ c.
     let I = c .before .before .before .before .before .before .before .before .before .before .before .loop .inv .3 in
     omega (arith, fits-le (I .fits), I .fits .limit, I .early))
@@ -55,23 +56,23 @@ distances-spec =
     (λ c.
     let l = c .before .before .before .before .before .before .before .before .before .before .before .loop in
     let f : length (l .distance) ≡ length (c .before .before .before .before .before .before .before .before .before .before .before .before .before .before .before .before .before .before .before .before .before .before .before .before .before .before .before .args .distance .now) = l .inv .0 ∙ simp length-set (c .before .before .before .before .before .before .before .before .before .before .before .before .before .before .before .before .before .before .clear .kept .0) in
-    let g : length (l .noted) ≡ length (c .before .before .before .before .before .before .before .before .before .before .before .before .before .before .before .before .before .before .before .before .before .before .before .before .before .before .before .args .noted .now) = l .inv .2 ∙ c .before .before .before .before .before .before .before .before .before .before .before .before .before .before .clear-noted .kept .0 in
+    let g : length (l .visited) ≡ length (c .before .before .before .before .before .before .before .before .before .before .before .before .before .before .before .before .before .before .before .before .before .before .before .before .before .before .before .args .visited .now) = l .inv .2 ∙ c .before .before .before .before .before .before .before .before .before .before .before .before .before .before .clear-bytes .kept .0 in
     let t = c .before .before .before .before .before .before .round in
-    (t .kept .1 .1 .1 .1 .1 .0 ∙ l .inv .0, t .kept .1 .1 .1 .1 .1 .1 .0 ∙ l .inv .1, t .kept .1 .1 .1 .1 .1 .1 .1 .0 ∙ l .inv .2, searched-next (l .inv .3) (t .ensures .all) (omega arith), t .ensures .notes))
+    (t .kept .1 .1 .1 .1 .1 .0 ∙ l .inv .0, t .kept .1 .1 .1 .1 .1 .1 .0 ∙ l .inv .1, t .kept .1 .1 .1 .1 .1 .1 .1 .0 ∙ l .inv .2, searched-next (l .inv .3) (t .ensures .all) (omega arith), t .ensures .visits))
     (λ c. omega (arith, c .before .loop .inv .3 .some))
     (λ c.
     let l = c .before .loop in
     let f : length (l .distance) ≡ length (c .before .before .before .before .before .before .before .before .before .before .before .before .before .before .before .before .before .args .distance .now) = l .inv .0 ∙ simp length-set (c .before .before .before .before .before .before .before .before .clear .kept .0) in
-    let g : length (l .noted) ≡ length (c .before .before .before .before .before .before .before .before .before .before .before .before .before .before .before .before .before .args .noted .now) = l .inv .2 ∙ c .before .before .before .before .clear-noted .kept .0 in
+    let g : length (l .visited) ≡ length (c .before .before .before .before .before .before .before .before .before .before .before .before .before .before .before .before .before .args .visited .now) = l .inv .2 ∙ c .before .before .before .before .clear-bytes .kept .0 in
     f)
     (λ c. c .before .loop .inv .1 ∙ simp length-set)
     (λ c.
     let l = c .before .loop in
     let f : length (l .distance) ≡ length (c .before .before .before .before .before .before .before .before .before .before .before .before .before .before .before .before .before .args .distance .now) = l .inv .0 ∙ simp length-set (c .before .before .before .before .before .before .before .before .clear .kept .0) in
-    let g : length (l .noted) ≡ length (c .before .before .before .before .before .before .before .before .before .before .before .before .before .before .before .before .before .args .noted .now) = l .inv .2 ∙ c .before .before .before .before .clear-noted .kept .0 in
+    let g : length (l .visited) ≡ length (c .before .before .before .before .before .before .before .before .before .before .before .before .before .before .before .before .before .args .visited .now) = l .inv .2 ∙ c .before .before .before .before .clear-bytes .kept .0 in
     g)
     (λ c.
     let l = c .before .loop in
     let f : length (l .distance) ≡ length (c .before .before .before .before .before .before .before .before .before .before .before .before .before .before .before .before .before .args .distance .now) = l .inv .0 ∙ simp length-set (c .before .before .before .before .before .before .before .before .clear .kept .0) in
-    let g : length (l .noted) ≡ length (c .before .before .before .before .before .before .before .before .before .before .before .before .before .before .before .before .before .args .noted .now) = l .inv .2 ∙ c .before .before .before .before .clear-noted .kept .0 in
+    let g : length (l .visited) ≡ length (c .before .before .before .before .before .before .before .before .before .before .before .before .before .before .before .before .before .args .visited .now) = l .inv .2 ∙ c .before .before .before .before .clear-bytes .kept .0 in
     searched-end (rw f (c .before .before .before .before .before .before .before .before .before .before .before .before .before .before .before .before .before .pre .2 .tables)) (l .inv .3) (omega arith)))

@@ -7,23 +7,23 @@ use borrow.Author.Needs.{needs}
 use Rattle.shapes.specs.Layout.{cornersIn}
 use Rattle.search.specs.Queue.{LeadsFrom}
 use Rattle.search.proofs.Queue.{fits-le, Partly, partly-first, takes-queue, between-turn, between-end}
-use Rattle.marking.specs.Tables.{Leads}
-use Rattle.marking.specs.Corners.{Notes}
+use Rattle.marking.specs.Tables.{Successor}
+use Rattle.marking.specs.Corners.{Visits}
 use Rattle.marking.proofs.Corners.{ready-next}
 use Rattle.marking.proofs.round.Statement.{statement}
 use Rattle.marking.proofs.round.Tie as tie
 
 abbrev Inv-loop : tie.InvT-loop
-Inv-loop regions first targets shapes heights distance₀ queue₀ noted₀ x lo hi n₀ i₀ distance queue noted n i =
+Inv-loop regions first targets shapes heights distance₀ queue₀ visited₀ x lo hi n₀ i₀ distance queue visited n i =
     (lo ≤ i)
     × (i ≤ hi)
-    × (length noted ≡ length noted₀)
-    × Partly x (LeadsFrom (Leads regions first targets shapes heights) queue₀ lo hi) (LeadsFrom (Leads regions first targets shapes heights) queue₀ i hi)
+    × (length visited ≡ length visited₀)
+    × Partly x (LeadsFrom (Successor regions first targets shapes heights) queue₀ lo hi) (LeadsFrom (Successor regions first targets shapes heights) queue₀ i hi)
     distance₀ distance queue₀ queue hi n
-    × Notes regions (cornersIn regions shapes) heights noted distance
+    × Visits regions (cornersIn regions shapes) heights visited distance
 
 abbrev μ-loop : tie.MeasureT-loop
-μ-loop regions first targets shapes heights distance₀ queue₀ noted₀ x lo hi n₀ i₀ distance queue noted n i = hi - i
+μ-loop regions first targets shapes heights distance₀ queue₀ visited₀ x lo hi n₀ i₀ distance queue visited n i = hi - i
 
 pub round-spec : {M : Type 1} → statement M
 round-spec =
@@ -31,7 +31,7 @@ round-spec =
     (tie.spec
     Inv-loop
     μ-loop
-    (λ c. (omega arith, c .before .before .before .before .before .before .before .pre .0, refl, partly-first (c .before .before .before .before .before .before .before .pre .2 .fits), c .before .before .before .before .before .before .before .pre .2 .notes))
+    (λ c. (omega arith, c .before .before .before .before .before .before .before .pre .0, refl, partly-first (c .before .before .before .before .before .before .before .pre .2 .fits), c .before .before .before .before .before .before .before .pre .2 .visits))
     (λ c.
     let k = c .before .loop .inv .3 .takes in
     omega (arith, fits-le (k .fits), k .more, k .fits .limit, k .fits .same))
@@ -52,10 +52,10 @@ round-spec =
     let l = c .before .before .before .before .before .before .before .before .before .before .before .before .before .loop in
     let t = c .before .before .before .before .before .before .spread in
     let e : c .before .before .before .before .before .before .before .before .before .before .from-word .result ≡ getD (c .before .before .before .before .before .before .before .before .before .before .before .before .before .before .before .before .before .before .before .before .before .args .queue .now) (l .i) 0 = c .before .before .before .before .before .before .before .before .before .before .from-word .ensures ∙ l .inv .3 .takes .kept (l .i) (omega arith) in
-    (omega arith, omega arith, t .kept .1 .1 .1 .1 .1 .1 .1 .0 ∙ l .inv .2, between-turn (l .inv .3) (l .inv .0) (omega arith) (rw e at (t .ensures .all)), t .ensures .notes))
+    (omega arith, omega arith, t .kept .1 .1 .1 .1 .1 .1 .1 .0 ∙ l .inv .2, between-turn (l .inv .3) (l .inv .0) (omega arith) (rw e at (t .ensures .all)), t .ensures .visits))
     (λ c. c .before .loop .inv .3 .takes .long)
     (λ c. takes-queue (c .before .loop .inv .3 .takes) (c .before .before .before .before .before .before .before .before .before .pre .2 .fits))
     (λ c. c .before .loop .inv .2)
     (λ c.
     let i = c .before .loop .inv in
-    record { all = between-end (i .3) (omega arith); notes = i .4 }))
+    record { all = between-end (i .3) (omega arith); visits = i .4 }))

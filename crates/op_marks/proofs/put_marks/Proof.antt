@@ -1,14 +1,14 @@
 -- `op_marks::put_marks` meets its contract.
 use borrow.Author.Needs.{needs}
 use lib.Dec.{ltb}
-use Rattle.theory.specs.Below.{bit}
 use native.Mathlib.Omega.{arith}
 use Prim.Native.Nat.{ℕ, _-_, _≤_, _<_}
 use mathlib.Core.Path.{_≡_, refl, sym, _∙_}
 use lib.ListN.{length, getD, length-set}
+use Rattle.graph.proofs.Plan.{size-states}
+use Rattle.theory.specs.Below.{bit}
 use Rattle.graph.specs.Plan.{systemOfModel}
 use Rattle.graph.proofs.Models.{system-laws}
-use Rattle.survey.proofs.Tables.{size-states}
 use Rattle.op_marks.proofs.Marked.{marks-written, marks-next}
 use Rattle.op_marks.proofs.put_marks.Statement.{statement}
 use Rattle.op_marks.proofs.put_marks.Tie as tie
@@ -35,7 +35,7 @@ flag-requires c κs = search needs
 slice-write-out : tie.Need-slice-write-out Inv-loop μ-loop
 slice-write-out c =
     let start = c .before .before .before .before .before .before in
-    omega (arith, c .before .before .before .loop .inv .1, start .pre .2, start .pre .1 .long, size-states (start .args .m) (start .pre .0))
+    omega (arith, c .before .before .before .loop .inv .1, start .pre .2, start .pre .1 .long, size-states (start .args .m))
 
 add-p : tie.Need-add-p Inv-loop μ-loop
 add-p c = search needs
@@ -59,7 +59,7 @@ returns c =
     let start = c .before .before .before .before in
     let l = c .before .loop in
     marks-written (systemOfModel (start .args .m)) (system-laws (start .args .m) (start .pre .0)) (l .out) (start .args .distances .now) (start .pre .1)
-    (l .inv .1 ∙ start .pre .2 ∙ sym (size-states (start .args .m) (start .pre .0))) (λ p b. l .inv .2 p (omega (arith, start .pre .1 .long)))
+    (l .inv .1 ∙ start .pre .2 ∙ sym (size-states (start .args .m))) (λ p b. l .inv .2 p (omega (arith, start .pre .1 .long)))
 
 pub put-marks-spec : {M : Type 1} → statement M
 put-marks-spec =

@@ -20,11 +20,9 @@ use ghost.Atoms.{Atoms, sem}
 use contract.Lifetimes.{AllOutlive}
 use contract.Monad.{Fun, fact}
 use contract.Running.{givenOf, tables, tablesOf}
-use types.Kit.{Item, Given, ‵, raw, _⊛_, given, ⋆, some, later, _$_, _∵_, !, qed, by, move, keep, drop, use1, use2, split, join, learn}
-use types.Kit.{pick, rewrite, fsplit, fsplit3, fjoin, fjoin3, feqI, suffices, frame, await, done}
+use types.Kit.{Item, Given, ‵, raw, _⊛_, given, ⋆, some, later, _$_, _∵_, !, qed, by, move, keep, drop, use1, use2, split, join, learn, pick, rewrite, fsplit, fsplit3, fjoin, fjoin3, feqI, suffices, frame, await, done}
 use types.Part.{whole, sub, look-in, store-in}
-use types.Run.{look, init, forget, stop, hop, fld, from, load, of-opd, and-then, no-more, assigns, land, returns, enter, alloc1, alloc0}
-use types.Run.{params1, pass1, pass0, free1, free0}
+use types.Run.{look, init, forget, stop, hop, fld, from, load, of-opd, and-then, no-more, assigns, land, returns, enter, alloc1, alloc0, params1, pass1, pass0, free1, free0}
 use types.SemTy.{Body}
 use sound.WpLaws.{FmC, fmOf, WpFn-mono}
 use denote.RattleType.{RattleType, owns}
@@ -51,7 +49,7 @@ use denote.Enum.Laws as EL
 use denote.Struct.Laws as LL
 use Rattle.number.specs.declared.Number.{Number}
 use Rattle.number.specs.Number.{readNumber}
-use Rattle.reader.specs.Reader.{afterNumber, told}
+use Rattle.reader.specs.Reader.{afterNumber, numberAnswer}
 use Rattle.reader.specs.declared.Reader.{Reader}
 use Rattle.number.proofs.read.Symbol.{name as #number·read}
 use Rattle.reader.proofs.next_offset.Symbol.{name as #reader·next-offset}
@@ -213,7 +211,7 @@ module _ {M : Type 1} (𝓤 : URA M) (H : Heap 𝓤) (A : Atoms 𝓤) (W : Given
       suffices ! _
       (ends-at 𝓤 H A next.ended stayed (next.clauses 𝓤 H A at-mem run) W (((κ, (κ′, tt)), (q, (q′, tt)), bounds, x, vals), tt)
       u t (moved n, tt) (tt, tt)) $
-      says ! (ap told e′, e′, λ i. moved (e i)) $ move ! (2 ∷ 4 ∷ []) $ join ! $ frame ! $
+      says ! (ap numberAnswer e′, e′, λ i. moved (e i)) $ move ! (2 ∷ 4 ∷ []) $ join ! $ frame ! $
       feqI ! (List Val) (vptr b o ∷ []) (vptr b o ∷ []) refl $ fjoin3 ! $ nothing ! $ move ! (1 ∷ 0 ∷ []) $ fjoin ! $ frame ! $ done !
 
   module _ (C : Calls 𝓤 H) (Λ : Loops 𝓤 H) (fm : FmC 𝓤 H (W .laws) C)

@@ -19,11 +19,9 @@ use ghost.Atoms.{Atoms, sem}
 use contract.BorrowLft.{meet-⊑-right}
 use contract.Monad.{Fun, fact}
 use contract.Running.{givenOf, tables, tablesOf}
-use types.Kit.{Item, Given, ‵, raw, _⊛_, ⋆, some, later, _$_, _∵_, !, qed, by, move, keep, group, use1, use2, use3, split, join, pick, rewrite}
-use types.Kit.{fsplit, fjoin, fpick, fpack, suffices, frame, await, done}
+use types.Kit.{Item, Given, ‵, raw, _⊛_, ⋆, some, later, _$_, _∵_, !, qed, by, move, keep, group, use1, use2, use3, split, join, pick, rewrite, fsplit, fjoin, fpick, fpack, suffices, frame, await, done}
 use types.Part.{agg, whole, sub, look-in, store-in}
-use types.Run.{look, init, forget, stop, fld, from, load, addr, of-opd, and-then, no-more, assigns, land, returns, enter, alloc1, alloc0}
-use types.Run.{params1, pass1, pass0, free1, free0}
+use types.Run.{look, init, forget, stop, fld, from, load, addr, of-opd, and-then, no-more, assigns, land, returns, enter, alloc1, alloc0, params1, pass1, pass0, free1, free0}
 use sound.WpLaws.{FmC, fmOf, WpFn-mono}
 use denote.RattleType.{RattleType, owns}
 use denote.Laws.{Is, shows}
@@ -49,7 +47,7 @@ use denote.Enum.Laws as EL
 use denote.Struct.Laws as LL
 use Rattle.number.specs.declared.Number.{Number}
 use Rattle.reader.specs.declared.Reader.{Reader}
-use Rattle.reader.specs.Reader.{nextNumber, told, nextAnswer, advanced}
+use Rattle.reader.specs.Reader.{nextNumber, numberAnswer, nextAnswer, advanced}
 use Rattle.reader.proofs.new.Symbol.{name as #reader·new}
 use Rattle.reader.proofs.next.Symbol.{name as #reader·next}
 use Rattle.reader_cases.specs.declared.Reply.{Reply}
@@ -206,7 +204,7 @@ module _ {M : Type 1} (𝓤 : URA M) (H : Heap 𝓤) (A : Atoms 𝓤) (W : Given
   Next-ensured l α γ t = ensured 𝓤 H A next.ended (next.clauses 𝓤 H A at-mem run) (α ∷ κ, (κ, tt)) (lent l γ) tt t
 
   abbrev Said : Number → Reader → Type 0
-  Said t h = (told t ≡ nextAnswer (readerAt s n)) × (t ≡ found) × (h ≡ readerAt s after)
+  Said t h = (numberAnswer t ≡ nextAnswer (readerAt s n)) × (t ≡ found) × (h ≡ readerAt s after)
 
   next-said : (l α : ℕ) (γ : GName) (t : Number) → ent 𝓤 (Next-ensured l α γ t)
       (sep 𝓤 (A .res γ (B .coded .code (readerAt s after))) (fact 𝓤 (t ≡ found)))

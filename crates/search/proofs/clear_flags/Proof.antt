@@ -1,4 +1,4 @@
--- `search::clear_flags` meets its contract. The invariant: the from-longs passed have lost their flag.
+-- `search::clear_flags` meets its contract. The invariant: the places passed have lost their flag.
 use Prim.Native.Nat.{_-_, _≤_}
 use native.Mathlib.Omega.{arith}
 use lib.ListN.{length}

@@ -1,4 +1,4 @@
--- `search::count_reached` meets its contract. The invariant: n counts the from-longs passed.
+-- `search::count_reached` meets its contract. The invariant: n counts the places passed.
 use Prim.Native.Nat.{ℕ, _-_, _≤_}
 use mathlib.Core.Path.{_≡_, refl, _∙_}
 use mathlib.Core.Logic.{⊎-elim}

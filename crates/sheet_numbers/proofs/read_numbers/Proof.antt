@@ -7,7 +7,7 @@ use lib.ListN.{length, length-set}
 use borrow.Author.Needs.{needs}
 use borrow.Author.Tests.{not-true, not-false}
 use Rattle.number.specs.Number.{numberRefusal}
-use Rattle.sheet_numbers.specs.Numbers.{stop}
+use Rattle.evidence_number.specs.Numbers.{refused}
 use Rattle.sheet_numbers.proofs.Reading.{Progress, number-small, after-none, numbers-refused, numbers-broken, numbers-more, numbers-done}
 use Rattle.sheet_numbers.proofs.read_numbers.Statement.{statement}
 use Rattle.sheet_numbers.proofs.read_numbers.Tie as tie
@@ -31,7 +31,7 @@ returns-refused c =
     let told = c .before .enum-told .given .1 in
     let read = c .before .before .before in
     let loop = read .before .before .loop in
-    ap stop (c .refusal-of .ensures ∙ ap numberRefusal told)
+    ap refused (c .refusal-of .ensures ∙ ap numberRefusal told)
     ∙ sym (numbers-refused _ _ _ _ _ _ _ _ (omega (arith, read .before .loop-test .taken, loop .inv .long)) (sym (read .read .ensures) ∙ told))
     ∙ loop .inv .numbers
 

@@ -3,13 +3,14 @@ use borrow.Author.Needs.{needs}
 use native.Mathlib.Omega.{arith}
 use Prim.Native.Nat.{ℕ, _*_}
 use mathlib.Core.Path.{subst, refl, sym, ap, _∙_}
+use Rattle.graph.proofs.Plan.{size-states}
 use Rattle.limits.specs.Limits.{maxLocations, pointCount}
 use Rattle.graph.specs.Plan.{systemOfModel}
 use Rattle.graph.proofs.Models.{system-laws}
 use Rattle.graph.proofs.States.{clocks-of, ceiling-of}
 use Rattle.component.specs.Marks.{Marks}
 use Rattle.tables.proofs.Lent.{prefix-long}
-use Rattle.survey.proofs.Tables.{size-states, start-product, heights-of, asked, tables-by, component-shape}
+use Rattle.survey.proofs.Tables.{start-product, heights-of, asked, tables-by, component-shape}
 use Rattle.survey.proofs.search.Statement.{statement}
 use Rattle.survey.proofs.search.Tie as tie
 
@@ -56,8 +57,8 @@ mul-start c =
     let b = start-product m ok (r .result) (r .ensures ∙ count .ensures) in
     rw (c .from-byte2 .ensures) (omega (arith, b))
 
-array-borrow-prefix-noted : tie.Need-array-borrow-prefix-noted
-array-borrow-prefix-noted c =
+array-borrow-prefix-visited : tie.Need-array-borrow-prefix-visited
+array-borrow-prefix-visited c =
     let start = c .before .before .before .before .before .before .before .before .before .before .before .before .before .before .before .before .before .before .before .before .before .before .before .before .before .before .before in
     let m = start .args .m in
     let ok = start .pre .0 .0 in
@@ -113,7 +114,7 @@ returns c =
       surveyed =
           record {
             heights = hs;
-            distances = searched .distances (systemOfModel m) (system-laws m ok) (size-states m ok ∙ sym (c .before .before .before .before .before .distances .kept .1 .1 .1 .1 .1 .1 .0 ∙ found .kept .1 .1 .1 .0 ∙ start .pre .1 .second))
+            distances = searched .distances (systemOfModel m) (system-laws m ok) (size-states m ∙ sym (c .before .before .before .before .before .distances .kept .1 .1 .1 .1 .1 .1 .0 ∙ found .kept .1 .1 .1 .0 ∙ start .pre .1 .second))
                 (rw (c .before .before .before .before .before .before .before .before .before .before .from-byte2 .ensures)
                 (tables-by m ok _ _ flow _ (found .last .1 .1 .0) (start .pre .0 .2) _ (r .ensures ∙ c .before .before .before .before .before .before .before .before .before .before .before .before .count .ensures) hs));
           };
@@ -131,7 +132,7 @@ search-spec =
     from-short-requires
     from-byte-requires-2
     mul-start
-    array-borrow-prefix-noted
+    array-borrow-prefix-visited
     slice-aggregate-distances
     distances-requires
     same-length

@@ -6,7 +6,7 @@ use lib.ListN.{length, length-set}
 use borrow.Author.Needs.{needs}
 use Rattle.search.specs.Flags.{Follows}
 use Rattle.search.proofs.Follow.{follows-first, follows-next, follows-last}
-use Rattle.marking.specs.Tables.{Leads}
+use Rattle.marking.specs.Tables.{Successor}
 use Rattle.trail_states.proofs.follow.Statement.{statement}
 use Rattle.trail_states.proofs.follow.Tie as tie
 
@@ -15,7 +15,7 @@ Inv-loop steps start regions first targets shapes heights distance path₀ p₀ 
     (i ≤ steps)
     × (p < length distance)
     × (length path ≡ length path₀)
-    × Follows (Leads regions first targets shapes heights) start steps distance path i p
+    × Follows (Successor regions first targets shapes heights) start steps distance path i p
 
 abbrev μ-loop : tie.MeasureT-loop
 μ-loop steps start regions first targets shapes heights distance path₀ p₀ i₀ path p i = steps - i

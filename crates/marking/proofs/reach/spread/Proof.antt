@@ -51,4 +51,4 @@ spread-spec =
     let A = c .before .before .before .before .before .before .before .before .before .before .before .before .before .before .before .before .before .before .before .before .before .take-row .ensures in
     let B = c .before .before .before .before .before .before .before .before .before .before .before .before .before .before .take-faces .ensures in
     let D = c .before .before .before .before .before .before .take-corners .ensures in
-    record { all = leads-all (p .2 .tables) (a .p) A B (D .all); notes = D .notes }))
+    record { all = leads-all (p .2 .tables) (a .p) A B (D .all); visits = D .visits }))

@@ -50,12 +50,12 @@ take-corner-spec =
     let T = p .2 .tables in
     let e = slot-point T (c .before .before .before .before .before .before .before .before .before .before .before .corners-at .ensures) (p .1) (c .before .before .before .before .before .before .before .before .before .from-word .ensures) in
     let v = slot-point-below T (c .before .before .before .before .before .before .before .before .before .before .before .corners-at .ensures) (p .1) (c .before .before .before .before .before .before .before .before .before .from-word .ensures) in
-    record { all = rw e at (c .before .before .before .before .take-point .ensures); notes = flag-new (a .location) (c .before .before .before .before .before .before .before .before .before .from-word .result) v (p .2 .notes) (c .before .before .before .before .take-point .ensures) })
+    record { all = rw e at (c .before .before .before .before .take-point .ensures); visits = flag-new (a .location) (c .before .before .before .before .before .before .before .before .before .from-word .result) v (p .2 .visits) (c .before .before .before .before .take-point .ensures) })
     (λ c.
     let p = c .before .before .before .before .before .before .before .before .before .before .pre in
     let a = c .before .before .before .before .before .before .before .before .before .before .args in
     let T = p .2 .tables in
     let e = slot-point T (c .before .before .before .before .corners-at .ensures) (p .1) (c .before .before .from-word .ensures) in
     let v = slot-point-below T (c .before .before .before .before .corners-at .ensures) (p .1) (c .before .before .from-word .ensures) in
-    let h : 0 < getD (a .noted .now) (a .location * pointCount + c .before .before .from-word .result) 0 = omega arith in
-    record { all = record { takes = takes-none (p .2 .fits); covers = rw e at (flag-old (a .location) (c .before .before .from-word .result) v (p .2 .notes) h) }; notes = p .2 .notes }))
+    let h : 0 < getD (a .visited .now) (a .location * pointCount + c .before .before .from-word .result) 0 = omega arith in
+    record { all = record { takes = takes-none (p .2 .fits); covers = rw e at (flag-old (a .location) (c .before .before .from-word .result) v (p .2 .visits) h) }; visits = p .2 .visits }))

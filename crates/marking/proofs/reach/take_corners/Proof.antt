@@ -7,21 +7,21 @@ use borrow.Author.Needs.{needs}
 use Rattle.limits.specs.Limits.{slotCount}
 use Rattle.shapes.specs.Layout.{cornersIn}
 use Rattle.search.proofs.Queue.{Partly, partly-first, takes-queue, between-turn, between-end}
-use Rattle.marking.specs.Corners.{Touches, Notes}
+use Rattle.marking.specs.Corners.{Touches, Visits}
 use Rattle.marking.proofs.Corners.{ready-next}
 use Rattle.marking.proofs.reach.take_corners.Statement.{statement}
 use Rattle.marking.proofs.reach.take_corners.Tie as tie
 
 abbrev Inv-loop : tie.InvT-loop
-Inv-loop regions shapes heights noted₀ distance₀ queue₀ x location i n end₀ k₀ noted distance queue end k =
+Inv-loop regions shapes heights visited₀ distance₀ queue₀ x location i n end₀ k₀ visited distance queue end k =
     (k ≤ slotCount)
-    × (length noted ≡ length noted₀)
+    × (length visited ≡ length visited₀)
     × Partly x (Touches (cornersIn regions shapes) heights (location * regions) i 0) (Touches (cornersIn regions shapes) heights (location * regions) i k)
     distance₀ distance queue₀ queue n end
-    × Notes regions (cornersIn regions shapes) heights noted distance
+    × Visits regions (cornersIn regions shapes) heights visited distance
 
 abbrev μ-loop : tie.MeasureT-loop
-μ-loop regions shapes heights noted₀ distance₀ queue₀ x location i n end₀ k₀ noted distance queue end k = slotCount - k
+μ-loop regions shapes heights visited₀ distance₀ queue₀ x location i n end₀ k₀ visited distance queue end k = slotCount - k
 
 pub take-corners-spec : {M : Type 1} → statement M
 take-corners-spec =
@@ -29,7 +29,7 @@ take-corners-spec =
     (tie.spec
     Inv-loop
     μ-loop
-    (λ c. (omega arith, refl, partly-first (c .before .before .before .before .before .pre .2 .fits), c .before .before .before .before .before .pre .2 .notes))
+    (λ c. (omega arith, refl, partly-first (c .before .before .before .before .before .pre .2 .fits), c .before .before .before .before .before .pre .2 .visits))
     (λ c. omega (arith, c .before .before .before .before .before .before .before .pre .2 .tables .faces .regions))
     (λ c. omega (arith, c .before .before .before .before .before .before .before .pre .2 .tables .faces .regions))
     (λ c κs.
@@ -42,10 +42,10 @@ take-corners-spec =
     (λ c.
     let i = c .before .before .before .before .before .before .before .before .before .before .before .loop .inv in
     let t = c .before .before .before .before .before .before .take-corner in
-    (omega arith, t .kept .1 .1 .1 .0 ∙ i .1, between-turn (i .2) (omega arith) (omega arith) (t .ensures .all), t .ensures .notes))
+    (omega arith, t .kept .1 .1 .1 .0 ∙ i .1, between-turn (i .2) (omega arith) (omega arith) (t .ensures .all), t .ensures .visits))
     (λ c. c .before .loop .inv .1)
     (λ c. c .before .loop .inv .2 .takes .long)
     (λ c. takes-queue (c .before .loop .inv .2 .takes) (c .before .before .before .before .before .before .before .pre .2 .fits))
     (λ c.
     let i = c .before .loop .inv in
-    record { all = between-end (i .2) (omega arith); notes = i .3 }))
+    record { all = between-end (i .2) (omega arith); visits = i .3 }))

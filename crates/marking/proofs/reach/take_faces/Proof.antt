@@ -3,9 +3,9 @@ use mathlib.Core.Path.{_∙_}
 use native.Mathlib.Omega.{arith}
 use Prim.Native.Nat.{_+_}
 use borrow.Author.Needs.{needs}
-use Rattle.search.proofs.Rows.{rows-length, rows-below}
+use Rattle.theory.proofs.Rows.{rows-length, rows-below}
 use Rattle.search.proofs.Queue.{takes-queue, between-same}
-use Rattle.marking.proofs.Parts.{rows-at}
+use Rattle.shapes.proofs.Parts.{rows-at}
 use Rattle.marking.proofs.reach.take_faces.Statement.{statement}
 use Rattle.marking.proofs.reach.take_faces.Tie as tie
 

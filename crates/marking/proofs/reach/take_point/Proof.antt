@@ -9,7 +9,7 @@ use Rattle.limits.specs.Limits.{slotCount}
 use Rattle.shapes.specs.Layout.{cornersIn, linksIn, headsIn}
 use Rattle.search.proofs.Queue.{Partly, partly-turn, partly-end, takes-none, takes-queue}
 use Rattle.marking.specs.Corners.{AtPoint}
-use Rattle.marking.proofs.Parts.{link-at, head-at, corners-long, heads-long}
+use Rattle.shapes.proofs.Parts.{link-at, head-at, corners-long, heads-long}
 use Rattle.marking.proofs.Corners.{PointAt, AmongSlots, point-first, point-all, point-end, point-below, point-falls, point-turn, point-part, point-next, slot-state}
 use Rattle.marking.proofs.reach.take_point.Statement.{statement}
 use Rattle.marking.proofs.reach.take_point.Tie as tie

@@ -2,14 +2,14 @@
 use native.Mathlib.Omega.{arith}
 use Prim.Native.Nat.{_≤_, _-_}
 use mathlib.Core.Path.{_≡_, ap, _∙_}
-use Rattle.model.specs.Parse.{guardAt, edgeAt}
+use Rattle.model.specs.Parse.{guardAt, parseEdge}
 use Rattle.model.specs.Each.{each}
 use Rattle.model.proofs.Each.{each-none, each-more, each-done}
 use Rattle.model.proofs.parse.read_edges.Statement.{statement}
 use Rattle.model.proofs.parse.read_edges.Tie as tie
 
 abbrev Inv-loop : tie.InvT-loop
-Inv-loop bytes ceiling n locations count t₀ e₀ t e = (e ≤ count) × (t ≡ each e (edgeAt bytes n ceiling locations) t₀)
+Inv-loop bytes ceiling n locations count t₀ e₀ t e = (e ≤ count) × (t ≡ each e (parseEdge bytes n ceiling locations) t₀)
 
 abbrev μ-loop : tie.MeasureT-loop
 μ-loop bytes ceiling n locations count t₀ e₀ t e = count - e
@@ -28,6 +28,6 @@ read-edges-spec =
     (λ c. (
       omega arith,
       c .read-guards .ensures ∙ ap (each _ (guardAt _ _ _)) (c .before .read-ends .ensures)
-          ∙ each-more (edgeAt _ _ _ _) _ _ _ (c .before .before .before .loop .inv .1),
+          ∙ each-more (parseEdge _ _ _ _) _ _ _ (c .before .before .before .loop .inv .1),
     ))
-    (λ c. each-done (edgeAt _ _ _ _) _ _ _ _ (c .before .loop .inv .1) (omega arith) (omega arith)))
+    (λ c. each-done (parseEdge _ _ _ _) _ _ _ _ (c .before .loop .inv .1) (omega arith) (omega arith)))

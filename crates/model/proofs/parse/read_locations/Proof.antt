@@ -2,14 +2,14 @@
 use native.Mathlib.Omega.{arith}
 use Prim.Native.Nat.{_≤_, _-_}
 use mathlib.Core.Path.{_≡_, ap, _∙_}
-use Rattle.model.specs.Parse.{invariantAt, locationAt}
+use Rattle.model.specs.Parse.{invariantAt, parseLocation}
 use Rattle.model.specs.Each.{each}
 use Rattle.model.proofs.Each.{each-none, each-more, each-done}
 use Rattle.model.proofs.parse.read_locations.Statement.{statement}
 use Rattle.model.proofs.parse.read_locations.Tie as tie
 
 abbrev Inv-loop : tie.InvT-loop
-Inv-loop bytes ceiling n count t₀ l₀ t l = (l ≤ count) × (t ≡ each l (locationAt bytes n ceiling) t₀)
+Inv-loop bytes ceiling n count t₀ l₀ t l = (l ≤ count) × (t ≡ each l (parseLocation bytes n ceiling) t₀)
 
 abbrev μ-loop : tie.MeasureT-loop
 μ-loop bytes ceiling n count t₀ l₀ t l = count - l
@@ -28,6 +28,6 @@ read-locations-spec =
     (λ c. (
       omega arith,
       c .read-invariants .ensures ∙ ap (each _ (invariantAt _ _ _)) (c .before .read-kind .ensures)
-          ∙ each-more (locationAt _ _ _) _ _ _ (c .before .before .before .loop .inv .1),
+          ∙ each-more (parseLocation _ _ _) _ _ _ (c .before .before .before .loop .inv .1),
     ))
-    (λ c. each-done (locationAt _ _ _) _ _ _ _ (c .before .loop .inv .1) (omega arith) (omega arith)))
+    (λ c. each-done (parseLocation _ _ _) _ _ _ _ (c .before .loop .inv .1) (omega arith) (omega arith)))

@@ -1,8 +1,8 @@
--- `search::least::least_listed` meets its contract. The invariant: what is left stands from from-long i on.
+-- `search::least::least_listed` meets its contract. The invariant: what is left stands from place i on.
 use Prim.Native.Nat.{_-_, _≤_}
 use native.Mathlib.Omega.{arith}
 use borrow.Author.Needs.{needs}
-use Rattle.search.specs.Queue.{Listed}
+use Rattle.search.specs.Queue.{InList}
 use Rattle.search.specs.Least.{At}
 use Rattle.search.proofs.Scan.{Partly, partly-first, least-same, between-turn, between-end}
 use Rattle.search.proofs.least.least_listed.Statement.{statement}
@@ -10,7 +10,7 @@ use Rattle.search.proofs.least.least_listed.Tie as tie
 
 abbrev Inv-loop : tie.InvT-loop
 Inv-loop list from to base level y best low₀ i₀ low i =
-    (from ≤ i) × (i ≤ to) × Partly (At level y (Listed list base from to)) (At level y (Listed list base i to)) best low
+    (from ≤ i) × (i ≤ to) × Partly (At level y (InList list base from to)) (At level y (InList list base i to)) best low
 
 abbrev μ-loop : tie.MeasureT-loop
 μ-loop list from to base level y best low₀ i₀ low i = to - i

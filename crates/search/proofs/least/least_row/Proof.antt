@@ -1,7 +1,8 @@
--- `search::least::least_row` meets its contract: the from-longs of a row stand in the list.
+-- `search::least::least_row` meets its contract: the places of a row stand in the list.
 use native.Mathlib.Omega.{arith}
 use borrow.Author.Needs.{needs}
-use Rattle.search.proofs.Rows.{rows-length, rows-below, row-in, row-out}
+use Rattle.theory.proofs.Rows.{rows-length, rows-below}
+use Rattle.search.proofs.Rows.{row-in, row-out}
 use Rattle.search.proofs.Scan.{least-same}
 use Rattle.search.proofs.least.least_row.Statement.{statement}
 use Rattle.search.proofs.least.least_row.Tie as tie

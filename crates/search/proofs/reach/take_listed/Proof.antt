@@ -1,8 +1,8 @@
--- `search::reach::take_listed` meets its contract. The invariant: what is left stands from from-long i on.
+-- `search::reach::take_listed` meets its contract. The invariant: what is left stands from place i on.
 use Prim.Native.Nat.{_-_, _≤_}
 use borrow.Author.Needs.{needs}
 use native.Mathlib.Omega.{arith}
-use Rattle.search.specs.Queue.{Listed}
+use Rattle.search.specs.Queue.{InList}
 use Rattle.search.proofs.Queue.{Partly, partly-first, takes-same, takes-queue, between-turn, between-end}
 use Rattle.search.proofs.reach.take_listed.Statement.{statement}
 use Rattle.search.proofs.reach.take_listed.Tie as tie
@@ -11,7 +11,7 @@ abbrev Inv-loop : tie.InvT-loop
 Inv-loop list from to base level₀ queue₀ x n end₀ i₀ level queue end i =
     (from ≤ i)
     × (i ≤ to)
-    × Partly x (Listed list base from to) (Listed list base i to) level₀ level queue₀ queue n end
+    × Partly x (InList list base from to) (InList list base i to) level₀ level queue₀ queue n end
 
 abbrev μ-loop : tie.MeasureT-loop
 μ-loop list from to base level₀ queue₀ x n end₀ i₀ level queue end i = to - i

@@ -2,7 +2,8 @@
 use borrow.Author.Needs.{needs}
 use native.Mathlib.Omega.{arith}
 use Rattle.search.proofs.Queue.{takes-queue, takes-same}
-use Rattle.search.proofs.Rows.{rows-length, rows-below, row-in, row-out}
+use Rattle.theory.proofs.Rows.{rows-length, rows-below}
+use Rattle.search.proofs.Rows.{row-in, row-out}
 use Rattle.search.proofs.reach.take_row.Statement.{statement}
 use Rattle.search.proofs.reach.take_row.Tie as tie
 

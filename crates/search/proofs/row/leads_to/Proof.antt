@@ -5,7 +5,8 @@ use mathlib.Core.Bool.{true≢false}
 use native.Mathlib.Omega.{arith}
 use lib.ListN.{getD}
 use borrow.Author.Needs.{needs}
-use Rattle.search.proofs.Rows.{rows-length, row-in, row-out, from-more}
+use Rattle.theory.proofs.Rows.{rows-length}
+use Rattle.search.proofs.Rows.{row-in, row-out, from-more}
 use Rattle.search.proofs.row.leads_to.Statement.{statement}
 use Rattle.search.proofs.row.leads_to.Tie as tie
 

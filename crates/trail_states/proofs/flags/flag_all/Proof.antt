@@ -7,13 +7,13 @@ use borrow.Author.Needs.{needs}
 use Rattle.search.specs.Queue.{reachedCount}
 use Rattle.search.proofs.Queue.{fits-le}
 use Rattle.search.proofs.Flags.{Flagging, flagging-first, flagging-level, flagging-below, flagging-next, flagging-end}
-use Rattle.marking.specs.Tables.{Leads}
+use Rattle.marking.specs.Tables.{Successor}
 use Rattle.trail_states.proofs.flags.flag_all.Statement.{statement}
 use Rattle.trail_states.proofs.flags.flag_all.Tie as tie
 
 abbrev Inv-loop : tie.InvT-loop
 Inv-loop regions first targets shapes heights kind distance₀ queue x i₀ distance i =
-    (start : ℕ) → Flagging (Leads regions first targets shapes heights) (λ z. getD kind (z / regions) 0 ≡ 1) start x distance₀ queue (reachedCount distance₀) i distance
+    (start : ℕ) → Flagging (Successor regions first targets shapes heights) (λ z. getD kind (z / regions) 0 ≡ 1) start x distance₀ queue (reachedCount distance₀) i distance
 
 abbrev μ-loop : tie.MeasureT-loop
 μ-loop regions first targets shapes heights kind distance₀ queue x i₀ distance i = i

@@ -10,7 +10,7 @@ use Rattle.shapes.specs.Layout.{cornersIn, linksIn, headsIn}
 use Rattle.search.specs.Least.{At}
 use Rattle.search.proofs.Scan.{Partly, partly-turn, partly-end}
 use Rattle.marking.specs.Corners.{AtPoint}
-use Rattle.marking.proofs.Parts.{link-at, head-at, corners-long, heads-long}
+use Rattle.shapes.proofs.Parts.{link-at, head-at, corners-long, heads-long}
 use Rattle.marking.proofs.Corners.{PointAt, AmongSlots, point-first, point-all, point-end, point-below, point-falls, point-turn, point-part, point-next, slot-state}
 use Rattle.trail_states.proofs.next.least_point.Statement.{statement}
 use Rattle.trail_states.proofs.next.least_point.Tie as tie

@@ -1,0 +1,2 @@
+-- A slice that a loop fills with zeros.
+pub mod Zeros

@@ -1,0 +1,2 @@
+-- What the writer of trails is lent.
+pub mod Lent
