@@ -43,7 +43,7 @@ module _ (m : Model) where
   size-states = refl
 
   pub some-regions : 0 < regionCount (automatonOf m)
-  unfolding regionCount
+  unfolding regionCount automatonOf
   some-regions = some-region (m .clocks) (m .ceiling)
 
   -- time, and a jump along each edge

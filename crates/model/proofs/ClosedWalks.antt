@@ -14,7 +14,7 @@ use Rattle.model.specs.declared.Model.{Model}
 use Rattle.limits.specs.Limits.{maxLocations}
 use Rattle.model.specs.Each.{each}
 use Rattle.model.specs.Model.{Lawful, sourceOf, targetOf, keeps}
-use Rattle.model.specs.Cycle.{EdgeWalk, here, step, ClosedWalk, LeavesUnreset, markedAt, markEdge, roundOf, survivors, hasCycle, unresetAt, unreset}
+use Rattle.model.specs.Cycle.{DrawingWalk, here, step, ClosedWalk, LeavesUnreset, markedAt, markEdge, roundOf, survivors, hasCycle, unresetAt, unreset}
 use Rattle.model.proofs.Each.{some-law}
 use Rattle.model.proofs.Pigeonhole.{Mem, Dup, pigeonhole}
 
@@ -108,15 +108,15 @@ module _ (m : Model) (good : Lawful m) (pass : ℕ → Bool) where
   table : ℕ → List ℕ
   table k = each k (λ i a. roundOf m pass a) (replicate maxLocations 1)
 
-  table-sound : (k v : ℕ) → getD (table k) v 0 ≡ 1 → (u : ℕ) × EdgeWalk m pass k v u
+  table-sound : (k v : ℕ) → getD (table k) v 0 ≡ 1 → (u : ℕ) × DrawingWalk m pass k v u
   unfolding table each roundOf swept Edge
   table-sound zero v h = (v, here)
   table-sound (suc k) v h = go (swept-sound (table k) (m .edges) v h) (λ w. table-sound k w)
     where
-      go : Edge (table k) (m .edges) v → ((w : ℕ) → getD (table k) w 0 ≡ 1 → (u : ℕ) × EdgeWalk m pass k w u) → (u : ℕ) × EdgeWalk m pass (suc k) v u
+      go : Edge (table k) (m .edges) v → ((w : ℕ) → getD (table k) w 0 ≡ 1 → (u : ℕ) × DrawingWalk m pass k w u) → (u : ℕ) × DrawingWalk m pass (suc k) v u
       go r ih = let t = ih (targetOf m (r .0)) (r .4) in (t .0, step (r .0) (r .1) (r .2) (r .3) (t .1))
 
-  table-complete : {k v u : ℕ} → EdgeWalk m pass k v u → v < maxLocations → getD (table k) v 0 ≡ 1
+  table-complete : {k v u : ℕ} → DrawingWalk m pass k v u → v < maxLocations → getD (table k) v 0 ≡ 1
   unfolding table each roundOf swept
   table-complete {v = v} here h = getD-replicate maxLocations v 1 0 h
   table-complete (step {k = k} e l s q w) h =
@@ -125,35 +125,35 @@ module _ (m : Model) (good : Lawful m) (pass : ℕ → Bool) where
   -- ---- closed walks
 
   -- from where a walk leads to a closed walk's beginning, walks of every length start
-  around : {k v : ℕ} → EdgeWalk m pass (suc k) v v → (j : ℕ) {a u : ℕ} → EdgeWalk m pass a u v → (t : ℕ) × EdgeWalk m pass j u t
+  around : {k v : ℕ} → DrawingWalk m pass (suc k) v v → (j : ℕ) {a u : ℕ} → DrawingWalk m pass a u v → (t : ℕ) × DrawingWalk m pass j u t
   around c zero {u = u} w = (u, here)
   around (step e l s q w) (suc j) here = let r = around (step e l s q w) j w in (r .0, step e l s q (r .1))
   around c (suc j) (step e l s q w) = let r = around c j w in (r .0, step e l s q (r .1))
 
-  visits : {k v u : ℕ} → EdgeWalk m pass k v u → List ℕ
+  visits : {k v u : ℕ} → DrawingWalk m pass k v u → List ℕ
   visits {v = v} here = v ∷ []
   visits {v = v} (step e l s q w) = v ∷ visits w
 
-  visits-length : {k v u : ℕ} (w : EdgeWalk m pass k v u) → length (visits w) ≡ suc k
+  visits-length : {k v u : ℕ} (w : DrawingWalk m pass k v u) → length (visits w) ≡ suc k
   unfolding visits
   visits-length here = refl
   visits-length (step e l s q w) = ap suc (visits-length w)
 
-  visits-below : {k v u : ℕ} (w : EdgeWalk m pass k v u) → v < m .locations → (z : ℕ) → Mem z (visits w) → z < m .locations
+  visits-below : {k v u : ℕ} (w : DrawingWalk m pass k v u) → v < m .locations → (z : ℕ) → Mem z (visits w) → z < m .locations
   unfolding visits
   visits-below here h z (inl e) = omega arith
   visits-below here h z (inr n) = absurd n
   visits-below (step e l s q w) h z (inl p) = omega arith
   visits-below (step e l s q w) h z (inr p) = visits-below w (good .ranges .target e) z p
 
-  reach : {k v u : ℕ} (w : EdgeWalk m pass k v u) (z : ℕ) → Mem z (visits w) → (i : ℕ) × EdgeWalk m pass i v z
+  reach : {k v u : ℕ} (w : DrawingWalk m pass k v u) (z : ℕ) → Mem z (visits w) → (i : ℕ) × DrawingWalk m pass i v z
   unfolding visits
-  reach {v = v} here z (inl p) = (0, subst (λ (y : ℕ). EdgeWalk m pass 0 v y) (sym p) here)
+  reach {v = v} here z (inl p) = (0, subst (λ (y : ℕ). DrawingWalk m pass 0 v y) (sym p) here)
   reach here z (inr p) = absurd p
-  reach {v = v} (step e l s q w) z (inl p) = (0, subst (λ (y : ℕ). EdgeWalk m pass 0 v y) (sym p) here)
+  reach {v = v} (step e l s q w) z (inl p) = (0, subst (λ (y : ℕ). DrawingWalk m pass 0 v y) (sym p) here)
   reach (step e l s q w) z (inr p) = let r = reach w z p in (suc (r .0), step e l s q (r .1))
 
-  dup-closed : {k v u : ℕ} (w : EdgeWalk m pass k v u) → Dup (visits w) → ClosedWalk m pass
+  dup-closed : {k v u : ℕ} (w : DrawingWalk m pass k v u) → Dup (visits w) → ClosedWalk m pass
   unfolding visits
   dup-closed here (inl p) = absurd p
   dup-closed here (inr p) = absurd p
@@ -161,11 +161,11 @@ module _ (m : Model) (good : Lawful m) (pass : ℕ → Bool) where
   dup-closed (step e l s q w) (inr p) = dup-closed w p
 
   -- a walk of as many edges as there are locations has a closed walk in it
-  long-closed : {v u : ℕ} → EdgeWalk m pass (m .locations) v u → v < m .locations → ClosedWalk m pass
+  long-closed : {v u : ℕ} → DrawingWalk m pass (m .locations) v u → v < m .locations → ClosedWalk m pass
   long-closed w h = dup-closed w (pigeonhole (m .locations) (visits w) (visits-below w h) (omega (arith, visits-length w)))
 
   -- a walk of one or more edges starts at a location
-  starts-below : {k v u : ℕ} → EdgeWalk m pass (suc k) v u → v < m .locations
+  starts-below : {k v u : ℕ} → DrawingWalk m pass (suc k) v u → v < m .locations
   starts-below (step e l s q w) = omega (arith, good .ranges .source e)
 
   -- ---- the rounds find what they are to find
@@ -177,7 +177,7 @@ module _ (m : Model) (good : Lawful m) (pass : ℕ → Bool) where
       let w = table-sound (m .locations) (r .0) (eqb-true _ _ (r .2)) in
       long-closed (w .1) (first-below (m .locations) (good .locations .0) (w .1))
     where
-      first-below : (k : ℕ) → 1 ≤ k → {v u : ℕ} → EdgeWalk m pass k v u → v < m .locations
+      first-below : (k : ℕ) → 1 ≤ k → {v u : ℕ} → DrawingWalk m pass k v u → v < m .locations
       first-below zero h w = absurd (omega arith)
       first-below (suc k) h w = starts-below w
 

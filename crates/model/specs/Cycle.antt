@@ -11,14 +11,14 @@ use Rattle.model.specs.Each.{each, someBelow}
 use Rattle.model.specs.Model.{sourceOf, targetOf, keeps}
 
 -- a walk of k edges from v to u, all of which pass
-pub data EdgeWalk (m : Model) (pass : ℕ → Bool) : ℕ → ℕ → ℕ → Type 0 where
-  here : {v : ℕ} → EdgeWalk m pass zero v v
+pub data DrawingWalk (m : Model) (pass : ℕ → Bool) : ℕ → ℕ → ℕ → Type 0 where
+  here : {v : ℕ} → DrawingWalk m pass zero v v
   step : {k v u : ℕ} (e : ℕ) → e < m .edges → sourceOf m e ≡ v → pass e ≡ true
-      → EdgeWalk m pass k (targetOf m e) u → EdgeWalk m pass (suc k) v u
+      → DrawingWalk m pass k (targetOf m e) u → DrawingWalk m pass (suc k) v u
 
 -- "A closed walk has one or more edges (or steps) and ends at its beginning."
 abbrev pub ClosedWalk : Model → (ℕ → Bool) → Type 0
-ClosedWalk m pass = (k : ℕ) × (v : ℕ) × EdgeWalk m pass (suc k) v v
+ClosedWalk m pass = (k : ℕ) × (v : ℕ) × DrawingWalk m pass (suc k) v v
 
 -- "a closed walk of edges that leaves some clock unreset"
 abbrev pub LeavesUnreset : Model → Type 0

@@ -17,7 +17,7 @@ use Rattle.theory.proofs.Sorted.{from-law}
 use Rattle.region.specs.View.{maskBits}
 use Rattle.model.specs.declared.Model.{Model}
 use Rattle.model.specs.Model.{keeps}
-use Rattle.model.specs.Cycle.{EdgeWalk, here, step, LeavesUnreset}
+use Rattle.model.specs.Cycle.{DrawingWalk, here, step, LeavesUnreset}
 use Rattle.graph.specs.Plan.{edgeOf, automatonOf}
 use Rattle.robust.specs.Robust.{EdgeWalk, resetsClock, LoopsReset}
 
@@ -41,7 +41,7 @@ both-false false b e = (refl, e)
 module _ (m : Model) where
   -- a walk of edges that resets no clock x is a walk of the model that keeps it
   unreset-walk : (x : ℕ) → x < m .clocks → {l k : ℕ} {gs : List Edge} → EdgeWalk (automatonOf m) l k gs → some (resetsClock x) gs ≡ false
-      → EdgeWalk m (keeps m x) (length gs) l k
+      → DrawingWalk m (keeps m x) (length gs) l k
   unfolding automatonOf
   unreset-walk x b EdgeWalk.stop t = here
   unreset-walk x b {l} {k} (EdgeWalk.move {gs = gs} g d s w) t =

@@ -10,7 +10,7 @@ use Rattle.model.specs.declared.Model.{Model}
 use Rattle.model.specs.Model.{Lawful}
 use Rattle.graph.specs.Plan.{automatonOf, systemOfModel}
 use Rattle.marking.specs.Tables.{Distances, Forbids}
-use Rattle.survey.proofs.Tables.{some-regions}
+use Rattle.graph.proofs.Plan.{some-regions}
 
 module _ (m : Model) (ok : Lawful m) where
   forbids : Forbids (systemOfModel m) (regionCount (automatonOf m)) (m .kind)
@@ -22,7 +22,7 @@ module _ (m : Model) (ok : Lawful m) where
       → (0 < r) × (length far ≤ length (m .kind) * r)
   unfolding systemOf regionCount automatonOf
   kinds far r D e =
-      rw e (some-regions m ok, rw (D .long, ok .sizes .kind) (mul-le-mul-right (length (regions (m .clocks) (m .ceiling))) (ok .locations .1)))
+      rw e (some-regions m, rw (D .long, ok .sizes .kind) (mul-le-mul-right (length (regions (m .clocks) (m .ceiling))) (ok .locations .1)))
 
   pub forbids-by : (r : ℕ) → r ≡ length (regions (m .clocks) (m .ceiling)) → Forbids (systemOfModel m) r (m .kind)
   unfolding regionCount automatonOf

@@ -79,7 +79,7 @@ module _ (m : Model) (ok : Lawful m) where
             flow = holds-rows (F .holds);
             tables =
                 record {
-                  some = (some-regions m);
+                  some = some-regions m;
                   states = states-limit ok;
                   locations = m .locations;
                   whole = refl;

@@ -1,6 +1,7 @@
 -- `components` meets its contract: at the end no node is new and the stack is empty, so all are finished.
 use mathlib.Core.Path.{_∙_}
 use borrow.Author.Needs.{needs}
+use lib.ListN.{length}
 use Rattle.limits.proofs.Zeros.{zero-at}
 use Rattle.component.proofs.Ends.{pass-first, all-done, marks-right}
 use Rattle.component.proofs.components.Statement.{statement}
@@ -11,9 +12,10 @@ components-spec =
     tie.close
     (tie.spec
     (λ c κs. search needs)
-    (λ c κs. let pre = c .before .before .before .before .before .before .before .before .before .before .before .before .before .before .pre in
+    (λ c κs. let start = c .before .before .before .before .before .before .before .before .before .before .before .before .before .before in
+    let pre = start .pre in
     let O = c .before .before .before .before .before .before .clear in
-    pass-first (pre .0) (O .kept .0 ∙ pre .1 .0) (pre .1 .1) (pre .1 .2) (pre .1 .3) (λ s l. zero-at _ (O .ensures) s))
+    pass-first (pre .0) (O .kept .0 ∙ pre .1 .0) (pre .1 .1) (pre .1 .2) (pre .1 .3) (λ s l. zero-at (length (start .args .mark .now)) (O .ensures) s))
     (λ c κs. let (Q, f) = c .before .before .before .before .before .before .before .before .before .explore-all .ensures in (
       c .before .before .before .before .before .before .before .before .before .before .before .before .before .before .before .before .before
           .before .before .before .before .before .before .before .pre .0 .small,

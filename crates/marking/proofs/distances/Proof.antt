@@ -42,7 +42,7 @@ distances-spec =
     let a = c .before .before .before .before .before .before .before .before .before .before .before .before .before .before .before .args in
     let p = c .before .before .before .before .before .before .before .before .before .before .before .before .before .before .before .pre in
     let f = c .before .before .before .before .before .before .clear in
-    (refl, refl, refl, searched-first (Successor (a .regions) (a .first .now) (a .targets .now) (a .shapes .now) (a .heights .now)) (f .last .0) (a .queue .now) (a .start) (zero-at _ (f .ensures)) (omega (arith, p .2 .tables .states, f .kept .0)) (p .1 ∙ sym (f .kept .0)) (omega (arith, f .kept .0)), record { covers = λ k h. absurd (omega (arith, zero-at _ (c .before .before .clear-bytes .ensures) k)) }))
+    (refl, refl, refl, searched-first (Successor (a .regions) (a .first .now) (a .targets .now) (a .shapes .now) (a .heights .now)) (f .last .0) (a .queue .now) (a .start) (zero-at (length (a .distance .now)) (f .ensures)) (omega (arith, p .2 .tables .states, f .kept .0)) (p .1 ∙ sym (f .kept .0)) (omega (arith, f .kept .0)), record { covers = λ k h. absurd (omega (arith, zero-at (length (a .visited .now)) (c .before .before .clear-bytes .ensures) k)) }))
     (λ c κs.
     let l = c .before .before .before .before .loop in
     let f : length (l .distance) ≡ length (c .before .before .before .before .before .before .before .before .before .before .before .before .before .before .before .before .before .before .before .before .args .distance .now) = l .inv .0 ∙ simp length-set (c .before .before .before .before .before .before .before .before .before .before .before .clear .kept .0) in

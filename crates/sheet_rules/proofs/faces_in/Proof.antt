@@ -29,11 +29,11 @@ faces-in-spec =
     Inv-loop
     μ-loop
     (λ c. search needs)
-    (λ c. omega (arith, c .before .before .before .pre .lists .1 .long))
-    (λ c. omega (arith, c .before .before .before .before .pre .lists .1 .long))
+    (λ c. omega (arith, c .before .before .before .pre .lists .long))
+    (λ c. omega (arith, c .before .before .before .before .pre .lists .long))
     (λ c κs. search needs)
-    (λ c. omega (arith, c .before .before .before .before .before .pre .lists .1 .long))
-    (λ c. omega (arith, c .before .before .before .before .before .before .pre .lists .1 .long))
+    (λ c. omega (arith, c .before .before .before .before .before .pre .lists .long))
+    (λ c. omega (arith, c .before .before .before .before .before .before .pre .lists .long))
     (λ c κs. search needs)
     (λ c.
     let a = c .before .before .before .before .before .before .before .args in (

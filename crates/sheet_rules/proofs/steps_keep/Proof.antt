@@ -28,11 +28,11 @@ steps-keep-spec =
     Inv-loop
     μ-loop
     (λ c. search needs)
-    (λ c. omega (arith, c .before .before .before .pre .1 .1 .long))
-    (λ c. omega (arith, c .before .before .before .before .pre .1 .1 .long))
+    (λ c. omega (arith, c .before .before .before .pre .1 .long))
+    (λ c. omega (arith, c .before .before .before .before .pre .1 .long))
     (λ c κs. search needs)
-    (λ c. omega (arith, c .before .before .before .before .before .pre .1 .1 .long))
-    (λ c. omega (arith, c .before .before .before .before .before .before .pre .1 .1 .long))
+    (λ c. omega (arith, c .before .before .before .before .before .pre .1 .long))
+    (λ c. omega (arith, c .before .before .before .before .before .before .pre .1 .long))
     (λ c κs. search needs)
     (λ c.
     let a = c .before .before .before .before .before .before .before .args in (

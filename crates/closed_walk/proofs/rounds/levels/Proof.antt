@@ -40,7 +40,7 @@ levels-spec =
     let a = c .before .before .before .before .before .before .before .before .args in
     let p = c .before .before .before .before .before .before .before .before .pre in
     let f = c .before .before .clear in
-    (refl, refl, searched-first (Adjacent (a .first .now) (a .targets .now)) (f .last .0) (a .queue .now) (a .q) (zero-at _ (f .ensures)) (omega (arith, p .1, f .kept .0)) (p .3 ∙ sym (f .kept .0)) (omega (arith, f .kept .0)), λ j a b. absurd (omega arith)))
+    (refl, refl, searched-first (Adjacent (a .first .now) (a .targets .now)) (f .last .0) (a .queue .now) (a .q) (zero-at (length (a .level .now)) (f .ensures)) (omega (arith, p .1, f .kept .0)) (p .3 ∙ sym (f .kept .0)) (omega (arith, f .kept .0)), λ j a b. absurd (omega arith)))
     (λ c κs.
     let l = c .before .before .loop in
     let f : length (l .level) ≡ length (c .before .before .before .before .before .before .before .before .before .before .before .args .level .now) = l .inv .0 ∙ simp length-set (c .before .before .before .before .before .clear .kept .0) in
