@@ -26,7 +26,12 @@ const AT_STATES: u64 = 1 << 16;
 
 const AT_COUNT: u64 = 1 << 40;
 
-// And those of a number: its value, and the offset after it.
+// The kinds of evidence, where the verdict is.
+const SHEET: u64 = 1 << 8;
+
+const TRAIL: u64 = 2 << 8;
+
+// Where those of a number begin: its value, and the offset after it.
 const AT_VALUE: u64 = 1 << 8;
 
 const AT_NEXT: u64 = 1 << 32;
@@ -64,8 +69,8 @@ fn check_word(answer: Evidence) -> u64
     ensures { λ r. ⌜ r ≡ checkWord (evidenceAnswer answer) ⌝ }
 {
     match answer {
-        Evidence::Sheet => AT_VERDICT,
-        Evidence::Trail => 2 * AT_VERDICT,
+        Evidence::Sheet => SHEET,
+        Evidence::Trail => TRAIL,
         Evidence::Refused(number) => number as u64,
     }
 }
