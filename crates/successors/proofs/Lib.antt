@@ -16,3 +16,5 @@ pub mod Tables
 pub mod Filling
 -- The room that the rows take, and the limits of a lawful model.
 pub mod Room
+-- An edge in one number.
+pub mod Words

@@ -6,3 +6,5 @@ pub mod Flags
 pub mod Rows
 -- The steps of a model in lists.
 pub mod Flow
+-- An edge in one number.
+pub mod Words

@@ -14,7 +14,11 @@ ghost use Rattle.graph.specs.States.{Listed, states};
 ghost use Rattle.limits.specs.Limits.{maxStates};
 ghost use Rattle.successors.specs.Flags.{FlagsBelow, AllowedFlags};
 ghost use Rattle.successors.specs.Rows.{Puts, HoldsBelow};
+ghost use Rattle.successors.specs.Words.{edgeWord, EdgeWords};
 ghost use Rattle.successors.specs.Flow.{Given, AllowedAt, IfFlagged, TimeTo, regionsIn, stateOf, leaving, LeavingEdges, FlowLists, room};
+
+mod edges;
+
 use limits::MAX_EDGES;
 use limits::Word;
 use limits::cast::from_byte;
@@ -110,13 +114,14 @@ fn put_time(
     n
 }
 
-// The jump along edge e of region i, which is g, of the edge's source.
+// The jump along edge e, whose word is w, of region i, which is g, of the edge's source. Contracts name the model; no code reads it here.
 fn put_jump(
     m: Model,
     count: usize,
     moved: &[u16],
     allowed: &[u8],
     e: usize,
+    w: u32,
     i: usize,
     g: Region,
     targets: &mut [Word],
@@ -124,15 +129,15 @@ fn put_jump(
 ) -> usize
     requires { ⌜
         Lawful m × (count ≡ regionsIn m) × Resets (m .clocks) (m .ceiling) (now moved) × AllowedFlags m (now allowed) × (e < m .edges)
-        × AllowedAt m (sourceOf m e) i g × (n < length (now targets))
+        × AllowedAt m (sourceOf m e) i g × (n < length (now targets)) × (w ≡ edgeWord m e)
         ⌝ }
     ensures { λ r. ⌜
         Puts 1 (Leads (labelledOfModel m) (suc e) (stateOf m (sourceOf m e) i)) (now (targets .entry)) (now (targets .exit)) n r
         ⌝ }
 {
-    if graph::guard(m, e, g) {
-        let j = from_short(moved[from_byte(m.reset[e]) * count + i]);
-        return put(allowed, from_byte(m.target[e]) * count + j, targets, n);
+    if edges::opens(w, g) {
+        let j = from_short(moved[edges::mask(w) * count + i]);
+        return put(allowed, edges::target(w) * count + j, targets, n);
     }
     n
 }
@@ -145,6 +150,7 @@ fn put_row(
     moved: &[u16],
     allowed: &[u8],
     edges: &[u8],
+    words: &[u32],
     l: usize,
     i: usize,
     targets: &mut [Word],
@@ -152,7 +158,7 @@ fn put_row(
 ) -> usize
     requires { ⌜
         Given m (now table) (now later) (now moved) (now allowed) × LeavingEdges m l (now edges) × (i < length (now table))
-        × (n + length (now edges) < length (now targets))
+        × (n + length (now edges) < length (now targets)) × EdgeWords m (now words)
         ⌝ }
     ensures { λ r. ⌜
         Puts (length (now (edges .entry)) + 1) (λ q. systemOfModel m .flow (stateOf m l i) q ≡ true)
@@ -168,17 +174,8 @@ fn put_row(
     let mut end = put_time(later, allowed, base, i, targets, n);
     let mut k = 0;
     while k < edges.len() {
-        end = put_jump(
-            m,
-            count,
-            moved,
-            allowed,
-            from_byte(edges[k]),
-            i,
-            g,
-            targets,
-            end,
-        );
+        let e = from_byte(edges[k]);
+        end = put_jump(m, count, moved, allowed, e, words[e], i, g, targets, end);
         k += 1;
     }
     end
@@ -192,6 +189,7 @@ fn put_rows(
     moved: &[u16],
     allowed: &[u8],
     edges: &[u8],
+    words: &[u32],
     l: usize,
     first: &mut [u32],
     targets: &mut [Word],
@@ -200,7 +198,7 @@ fn put_rows(
     requires { ⌜
         Given m (now table) (now later) (now moved) (now allowed) × LeavingEdges m l (now edges)
         × (n ≤ room m l) × (states m + m .edges * regionsIn m ≤ length (now targets))
-        × HoldsBelow (now first) (now targets) (states m) (systemOfModel m .flow) (l * regionsIn m) n
+        × HoldsBelow (now first) (now targets) (states m) (systemOfModel m .flow) (l * regionsIn m) n × EdgeWords m (now words)
         ⌝ }
     ensures { λ r. ⌜
         (r ≤ room m (l + 1)) × (length (now (targets .exit)) ≡ length (now (targets .entry)))
@@ -211,7 +209,19 @@ fn put_rows(
     let mut end = n;
     let mut i = 0;
     while i < table.len() {
-        end = put_row(m, table, later, moved, allowed, edges, l, i, targets, end);
+        end = put_row(
+            m,
+            table,
+            later,
+            moved,
+            allowed,
+            edges,
+            words,
+            l,
+            i,
+            targets,
+            end,
+        );
         i += 1;
         first[base + i] = end as u32;
     }
@@ -225,6 +235,7 @@ fn fill_location(
     later: &[u16],
     moved: &[u16],
     allowed: &[u8],
+    words: &[u32],
     l: usize,
     first: &mut [u32],
     targets: &mut [Word],
@@ -233,7 +244,7 @@ fn fill_location(
     requires { ⌜
         Given m (now table) (now later) (now moved) (now allowed) × (l < m .locations)
         × (n ≤ room m l) × (states m + m .edges * regionsIn m ≤ length (now targets))
-        × HoldsBelow (now first) (now targets) (states m) (systemOfModel m .flow) (l * regionsIn m) n
+        × HoldsBelow (now first) (now targets) (states m) (systemOfModel m .flow) (l * regionsIn m) n × EdgeWords m (now words)
         ⌝ }
     ensures { λ r. ⌜
         (r ≤ room m (l + 1)) × (length (now (targets .exit)) ≡ length (now (targets .entry)))
@@ -249,6 +260,7 @@ fn fill_location(
         moved,
         allowed,
         &edges[..count],
+        words,
         l,
         first,
         targets,
@@ -274,11 +286,24 @@ pub fn fill_flow(
     ensures { λ _. ⌜ FlowLists m (now (first .exit)) (now (targets .exit)) ⌝ }
 {
     let locations = from_byte(m.locations);
+    let mut words = [0u32; MAX_EDGES];
+    edges::fill_words(m, &mut words);
     first[0] = 0;
     let mut n = 0;
     let mut l = 0;
     while l < locations {
-        n = fill_location(m, table, later, moved, allowed, l, first, targets, n);
+        n = fill_location(
+            m,
+            table,
+            later,
+            moved,
+            allowed,
+            &words,
+            l,
+            first,
+            targets,
+            n,
+        );
         l += 1;
     }
 }

@@ -14,14 +14,14 @@ use Rattle.successors.proofs.fill_flow.Statement.{statement}
 use Rattle.successors.proofs.fill_flow.Tie as tie
 
 abbrev Inv-loop : tie.InvT-loop
-Inv-loop m table later moved allowed first₀ targets₀ locations n₀ l₀ first targets n l =
+Inv-loop m table later moved allowed first₀ targets₀ locations words n₀ l₀ first targets n l =
     (l ≤ m .locations)
     × (n ≤ room m l)
     × (length targets ≡ length targets₀)
     × HoldsBelow first targets (states m) (systemOfModel m .flow) (l * regionsIn m) n
 
 abbrev μ-loop : tie.MeasureT-loop
-μ-loop m table later moved allowed first₀ targets₀ locations n₀ l₀ first targets n l = m .locations - l
+μ-loop m table later moved allowed first₀ targets₀ locations words n₀ l₀ first targets n l = m .locations - l
 
 pub fill-flow-spec : {M : Type 1} → statement M
 fill-flow-spec =
@@ -30,18 +30,21 @@ fill-flow-spec =
     Inv-loop
     μ-loop
     (λ c κs. search needs)
-    (λ c. omega (arith, c .before .before .before .before .before .before .before .pre .1))
-    (λ c. let s = c .before .before .before .before .before .before .before in
+    (λ c. refl)
+    (λ c κs. let s = c .before .before .before .before .before .before .before .before in (s .pre .0 .lawful, s .pre .0 .lawful .edges))
+    (λ c. omega (arith, c .before .before .before .before .before .before .before .before .before .before .pre .1))
+    (λ c. let s = c .before .before .before .before .before .before .before .before .before .before in
     (omega arith, omega arith, refl, flow-first (s .pre .0) (s .args .first .now) (s .args .targets .now) (s .pre .1)))
-    (λ c κs. let s = c .before .before .before .before .before .before .before .before .before .before .before in
-    let o = c .before .before .before .loop .inv in
-    (s .pre .0, omega (arith, c .before .before .before .before .from-byte .ensures), o .1, flow-room (s .pre .0) (rw (o .2) (s .pre .2)), o .3))
-    (λ c. omega (arith, c .before .before .before .before .before .before .before .before .before .before .before .before .before .before .before .before .pre .0 .lawful .locations .1))
-    (λ c. omega (arith, c .before .before .before .before .before .before .before .before .before .from-byte .ensures))
+    (λ c. omega (arith, c .before .before .before .before .fill-words .kept .1 .0))
+    (λ c κs. let s = c .before .before .before .before .before .before .before .before .before .before .before .before .before .before .before in
+    let o = c .before .before .before .before .loop .inv in
+    (s .pre .0, omega (arith, c .before .before .before .before .before .before .before .before .from-byte .ensures), o .1, flow-room (s .pre .0) (rw (o .2) (s .pre .2)), o .3, c .before .before .before .before .before .before .fill-words .ensures))
+    (λ c. omega (arith, c .before .before .before .before .before .before .before .before .before .before .before .before .before .before .before .before .before .before .before .before .pre .0 .lawful .locations .1))
+    (λ c. omega (arith, c .before .before .before .before .before .before .before .before .before .before .before .before .before .from-byte .ensures))
     (λ c. let r = c .before .before .before .before .fill-location .ensures in
-    (omega (arith, c .before .before .before .before .before .before .before .before .before .from-byte .ensures), r .0, r .1 ∙ c .before .before .before .before .before .before .before .before .loop .inv .2, r .2))
-    (λ c. c .before .loop .inv .3 .long ∙ sym (add-one _) ∙ sym (c .before .before .before .before .before .before .before .before .before .pre .1))
+    (omega (arith, c .before .before .before .before .before .before .before .before .before .before .before .before .before .from-byte .ensures), r .0, r .1 ∙ c .before .before .before .before .before .before .before .before .before .loop .inv .2, r .2))
+    (λ c. c .before .loop .inv .3 .long ∙ sym (add-one _) ∙ sym (c .before .before .before .before .before .before .before .before .before .before .before .before .pre .1))
     (λ c. c .before .loop .inv .2)
-    (λ c. let s = c .before .before .before .before .before .before .before .before .before in
+    (λ c. let s = c .before .before .before .before .before .before .before .before .before .before .before .before in
     let o = c .before .loop .inv in
-    flow-end (s .pre .0) (omega (arith, c .before .before .from-byte .ensures)) (o .1) (rw (o .2) (s .pre .2)) (o .3)))
+    flow-end (s .pre .0) (omega (arith, c .before .before .before .before .before .from-byte .ensures)) (o .1) (rw (o .2) (s .pre .2)) (o .3)))
