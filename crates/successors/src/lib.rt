@@ -3,6 +3,7 @@
 
 ghost use mathlib.Core.Path.{_≡_};
 ghost use mathlib.Core.Bool.{true};
+ghost use mathlib.Core.List.{[], _∷_};
 ghost use Prim.Native.Nat.{suc, _+_, _*_, _≤_, _<_};
 ghost use lib.ListN.{length, take};
 ghost use Rattle.theory.specs.Below.{bit};
@@ -12,7 +13,7 @@ ghost use Rattle.model.specs.Model.{Lawful, sourceOf};
 ghost use Rattle.graph.specs.Plan.{systemOfModel, labelledOfModel};
 ghost use Rattle.graph.specs.States.{Listed, states};
 ghost use Rattle.limits.specs.Limits.{maxStates};
-ghost use Rattle.successors.specs.Flags.{FlagsBelow, AllowedFlags};
+ghost use Rattle.successors.specs.Flags.{PackedAll, Flagged, FlagsBelow, AllowedFlags};
 ghost use Rattle.successors.specs.Rows.{Puts, HoldsBelow};
 ghost use Rattle.successors.specs.Words.{edgeWord, EdgeWords};
 ghost use Rattle.successors.specs.Flow.{Given, AllowedAt, IfFlagged, TimeTo, regionsIn, stateOf, leaving, LeavingEdges, FlowLists, room};
@@ -32,18 +33,29 @@ fn flag(b: bool) -> u8
     if b { 1 } else { 0 }
 }
 
+// From `base` on a flag for each region of the table: 1 where it is within the limits l1, l2 and l3, 0 elsewhere.
+fn flag_within(table: &[u32], l1: u8, l2: u8, l3: u8, base: usize, allowed: &mut [u8])
+    requires { ⌜ PackedAll (now table) × (base + length (now table) ≤ length (now allowed)) × (length (now allowed) ≤ maxStates) ⌝ }
+    ensures { λ _. ⌜ Flagged (now (table .entry)) (l1 ∷ l2 ∷ l3 ∷ []) base (length (now (table .entry))) (now (allowed .entry)) (now (allowed .exit)) ⌝ }
+{
+    let mut i = 0;
+    while i < table.len() {
+        let g = Region::unpack(table[i]);
+        allowed[base + i] = flag(g.fits(l1, l2, l3));
+        i += 1;
+    }
+}
+
 // The flags of the states of location l.
 fn flag_location(m: Model, table: &[u32], l: usize, allowed: &mut [u8])
     requires { ⌜ Lawful m × Listed m (now table) × (l < m .locations) × FlagsBelow m (l * regionsIn m) (now allowed) ⌝ }
     ensures { λ _. ⌜ FlagsBelow m ((l + 1) * regionsIn m) (now (allowed .exit)) ⌝ }
 {
-    let base = l * table.len();
-    let mut i = 0;
-    while i < table.len() {
-        let g = Region::unpack(table[i]);
-        allowed[base + i] = flag(graph::stays(m, l, g));
-        i += 1;
-    }
+    let i = model::STRIDE * l;
+    let l1 = m.invariant[i];
+    let l2 = m.invariant[i + 1];
+    let l3 = m.invariant[i + 2];
+    flag_within(table, l1, l2, l3, l * table.len(), allowed);
 }
 
 // For every state 1 where it is allowed, 0 elsewhere.
