@@ -1,20 +1,19 @@
--- What a turn of each loop adds to its table.
-use Prim.Native.Nat.{ℕ, _+_, _*_, _<_}
+-- What a turn of each loop adds to its table, and what is found at a code.
+use Prim.Native.Nat.{ℕ, _+_, _<_}
 use native.Mathlib.Omega.{arith}
-use native.Mathlib.Decide.{ℕ-discrete}
 use mathlib.Core.Path.{_≡_, refl, sym, ap, _∙_}
 use mathlib.Core.List.{List, []}
 use lib.ListN.{length, getD, set}
-use Rattle.theory.specs.Region.{Clock, successor, resetClocks, closeUp, regions}
+use Rattle.theory.specs.Region.{successor, resetClocks, closeUp, regions}
 use Rattle.theory.specs.StateGraph.{indexIn}
 use Rattle.region.specs.Limits.{Clocks, Ceiling}
 use Rattle.region.specs.View.{view, structOf, timeOf, laterOf, maskBits, Known}
 use Rattle.region.specs.declared.Region.{Region}
 use Rattle.region.specs.declared.Later.the-variants.{Next, Past}
 use Rattle.region.proofs.Known.{known-small, known-next, known-past, known-reset}
-use Rattle.limits.specs.Limits.{maxClocks, maskCount, codeCount}
+use Rattle.limits.specs.Limits.{maxClocks, codeCount}
 use Rattle.region_steps.specs.Codes.{codeOf, resetCode}
-use Rattle.region_steps.specs.Tables.{Indexed, Column}
+use Rattle.region_steps.specs.Tables.{Indexed}
 use Rattle.region_steps.proofs.Index.{index-past}
 use Rattle.region_steps.proofs.Codes.{code-below, code-once, indexed-at}
 use Rattle.region_steps.proofs.Fill.{set-next}
@@ -44,22 +43,9 @@ module _ (n M : ℕ) (clocks : Clocks n) (ceiling : Ceiling M) where
     pub later-past : laterOf (timeOf n M (view n g)) ≡ Past → indexIn (regions n M) (successor (view n g)) ≡ length (regions n M)
     later-past e = index-past n M (successor (view n g)) (known-past n M clocks ceiling g e)
 
-    -- the resets of one more region in its column
-    pub resets-next : (count : ℕ) → count ≡ length (regions n M) → (moved moved′ : List ℕ) (i : ℕ) → i < count
-        → view n g ≡ getD (regions n M) i []
-        → Column count i (λ k. getD index (resetCode g k) 0) maskCount moved moved′
-        → ((k j : ℕ) → k < maskCount → j < i
-        → getD moved (k * count + j) 0 ≡ indexIn (regions n M) (closeUp (resetClocks (maskBits n k) (getD (regions n M) j []))))
-        → (k j : ℕ) → k < maskCount → j < i + 1
-        → getD moved′ (k * count + j) 0 ≡ indexIn (regions n M) (closeUp (resetClocks (maskBits n k) (getD (regions n M) j [])))
-    resets-next count c moved moved′ i l v col h k j a b = by (ℕ-discrete j i)
-      where
-        to : ℕ → List Clock → List Clock
-        to k xs = closeUp (resetClocks (maskBits n k) xs)
-
-        by : Dec (j ≡ i) → getD moved′ (k * count + j) 0 ≡ indexIn (regions n M) (to k (getD (regions n M) j []))
-        by (yes q) =
-            let x : Region = structOf (closeUp (resetClocks (maskBits maxClocks k) (view maxClocks g))) in
-            let (p, u) = known-reset n M clocks ceiling k g x w refl in
-            rw q (col .is k a ∙ indexed-at n M index table x p ∙ ap (indexIn (regions n M)) (u ∙ ap (to k) v))
-        by (no q) = let d : j < i = omega (arith, q) in col .others k j (omega arith) q ∙ h k j a d
+    -- a reset
+    pub reset-at : (k : ℕ) → getD index (resetCode g k) 0 ≡ indexIn (regions n M) (closeUp (resetClocks (maskBits n k) (view n g)))
+    reset-at k =
+        let x : Region = structOf (closeUp (resetClocks (maskBits maxClocks k) (view maxClocks g))) in
+        let (p, u) = known-reset n M clocks ceiling k g x w refl in
+        indexed-at n M index table x p ∙ ap (indexIn (regions n M)) u

@@ -3,20 +3,19 @@
 ghost use mathlib.Core.Path.{_≡_};
 ghost use mathlib.Core.Bool.{cond};
 ghost use mathlib.Core.List.{[]};
-ghost use Prim.Native.Nat.{ℕ, _*_, _≤_, _<_};
+ghost use Prim.Native.Nat.{ℕ, _≤_, _<_};
 ghost use lib.ListN.{length, getD};
-ghost use Rattle.theory.specs.Region.{successor, regions};
+ghost use Rattle.theory.specs.Region.{successor, resetClocks, closeUp, regions};
 ghost use Rattle.theory.specs.StateGraph.{indexIn};
 ghost use Rattle.region.specs.Limits.{Clocks, Ceiling};
-ghost use Rattle.region.specs.View.{view, Small, Known};
+ghost use Rattle.region.specs.View.{view, maskBits, Small, Known};
 ghost use Rattle.region_table.specs.Table.{packedRegions};
-ghost use Rattle.limits.specs.Limits.{codeCount, maskCount};
+ghost use Rattle.limits.specs.Limits.{codeCount};
 ghost use Rattle.region_steps.specs.Codes.{codeOf, resetCode};
-ghost use Rattle.region_steps.specs.Tables.{Indexed, Laters, Resets, Column};
+ghost use Rattle.region_steps.specs.Tables.{Indexed, Laters};
 
 mod ranks;
 
-use limits::MASKS;
 use limits::RANK_BASE;
 use limits::RANK_CODES;
 use limits::WHOLE_BASE;
@@ -27,8 +26,6 @@ use region::Region;
 
 // One step of the first rank's digit.
 const RANK_SQUARE: usize = RANK_BASE * RANK_BASE;
-
-const MASK_COUNT: u8 = MASKS as u8;
 
 // The code of a region.
 fn code(g: Region) -> usize
@@ -98,6 +95,18 @@ pub fn number_of(index: &[u16], g: Region) -> usize
     from_short(index[at])
 }
 
+// The number of a region after a reset.
+pub fn reset_number(index: &[u16], g: Region, mask: u8) -> usize
+    requires { ⌜ Small g × (length (now index) ≡ codeCount) ⌝ }
+    ensures { λ r. ⌜
+        ((n M : ℕ) → Clocks n → Ceiling M → Indexed n M (now (index .entry)) → Known n M g
+        → r ≡ indexIn (regions n M) (closeUp (resetClocks (maskBits n mask) (view n g))))
+        ⌝ }
+{
+    let to = reset_code(g, mask);
+    from_short(index[to])
+}
+
 // The number of the region next in time, or `past` where there is none.
 fn later_of(n: u8, ceiling: u8, index: &[u16], past: u16, g: Region) -> u16
     requires { ⌜
@@ -127,43 +136,6 @@ pub fn fill_later(n: u8, ceiling: u8, table: &[u32], index: &[u16], later: &mut 
     while i < count {
         let g = region_at(n, ceiling, table, i);
         later[i] = later_of(n, ceiling, index, past, g);
-        i += 1;
-    }
-}
-
-// Into column i of `moved`, for each mask, the number of the region after the reset of g.
-fn put_resets(index: &[u16], g: Region, i: usize, count: usize, moved: &mut [u16])
-    requires { ⌜
-        Small g × (length (now index) ≡ codeCount) × (i < count) × (length (now moved) ≡ maskCount * count)
-        ⌝ }
-    ensures { λ _. ⌜
-        Column count i (λ k. getD (now (index .entry)) (resetCode g k) 0)
-        maskCount (now (moved .entry)) (now (moved .exit))
-        ⌝ }
-{
-    let mut mask = 0;
-    let mut at = i;
-    while mask < MASK_COUNT {
-        let to = reset_code(g, mask);
-        moved[at] = index[to];
-        at += count;
-        mask += 1;
-    }
-}
-
-// Into `moved`, for each mask a row: for each region, the number of the region after the reset.
-pub fn fill_resets(n: u8, ceiling: u8, table: &[u32], index: &[u16], moved: &mut [u16])
-    requires { ⌜
-        Clocks n × Ceiling ceiling × (now table ≡ packedRegions n ceiling) × Indexed n ceiling (now index)
-        × (length (now moved) ≡ maskCount * length (regions n ceiling))
-        ⌝ }
-    ensures { λ _. ⌜ Resets n ceiling (now (moved .exit)) ⌝ }
-{
-    let count = from_short(region_table::count(n, ceiling));
-    let mut i = 0;
-    while i < count {
-        let g = region_at(n, ceiling, table, i);
-        put_resets(index, g, i, count, moved);
         i += 1;
     }
 }

@@ -34,7 +34,7 @@ bit-on : (b : Bool) → (bit b ≡ 0 → ⊥) → b ≡ true
 bit-on true e = refl
 bit-on false e = absurd (e refl)
 
-module _ {m : Model} {table later moved allowed : List ℕ} (given : Given m table later moved allowed) where
+module _ {m : Model} {table later index allowed : List ℕ} (given : Given m table later index allowed) where
   count-here : length table ≡ regionsIn m
   count-here = count-is (given .lawful) (given .listed)
 

@@ -1,6 +1,6 @@
 -- What the functions put is what the steps of a model lead to, by the tables of its regions and the flags of its states.
-use Prim.Native.Nat.{ℕ, suc, _+_, _*_, _≤_, _<_, _^_}
-use native.Mathlib.Nat.{add-mul, mul-le-mul-right, lt-of-lt-of-le}
+use Prim.Native.Nat.{ℕ, suc, _+_, _*_, _≤_, _<_}
+use native.Mathlib.Nat.{add-mul, mul-le-mul-right}
 use native.Mathlib.Decide.{decLt}
 use native.Mathlib.Omega.{arith}
 use mathlib.Core.Path.{_≡_, sym, ap, ap₂, _∙_, subst}
@@ -14,15 +14,12 @@ use Rattle.theory.specs.RegionGraph.{after, guardHolds}
 use Rattle.theory.specs.StateGraph.{regionsOf, regionCount, indexIn, allowedState}
 use Rattle.region.specs.View.{view, maskBits}
 use Rattle.region.specs.declared.Region.{Region}
-use Rattle.region.proofs.Views.{three}
-use Rattle.limits.specs.Limits.{maskCount}
-use Rattle.region_steps.specs.Tables.{Laters, Resets}
-use Rattle.region_steps.proofs.Tables.{moved-below}
+use Rattle.region_steps.specs.Tables.{Laters}
+use Rattle.region_steps.proofs.Tables.{reset-below}
 use Rattle.model.specs.declared.Model.{Model}
 use Rattle.model.specs.Model.{Lawful, sourceOf, targetOf}
 use Rattle.graph.specs.Plan.{edgeOf, automatonOf, labelledOfModel}
 use Rattle.graph.specs.States.{states}
-use Rattle.graph.proofs.States.{clocks-of}
 use Rattle.successors.specs.Flags.{AllowedFlags}
 use Rattle.successors.specs.Rows.{Puts}
 use Rattle.successors.specs.Flow.{AllowedAt, IfFlagged, TimeTo, regionsIn, stateOf}
@@ -74,8 +71,7 @@ module _ {m : Model} {allowed : List ℕ} {count : ℕ} (ok : Lawful m) (f : All
 
   -- ---- the jump along edge e from region i of its source
 
-  module _ {moved : List ℕ} {e i : ℕ} {g : Region} (w : Resets (m .clocks) (m .ceiling) moved) (d : e < m .edges)
-      (s : AllowedAt m (sourceOf m e) i g) where
+  module _ {e i : ℕ} {g : Region} (d : e < m .edges) (s : AllowedAt m (sourceOf m e) i g) where
     guard-at : {b : Bool} → guardHolds (edgeOf m e) (view (m .clocks) g) ≡ b
         → guardHolds (edgeOf m e) (getD (regionsOf (automatonOf m)) i []) ≡ b
     unfolding automatonOf
@@ -85,48 +81,33 @@ module _ {m : Model} {allowed : List ℕ} {count : ℕ} (ok : Lawful m) (f : All
         → Puts 1 (Leads (labelledOfModel m) (suc e) (stateOf m (sourceOf m e) i)) t t n n
     jump-none t n o = puts-none 1 t n (jump-shut m ok e i d (s .region) (s .allowed) (guard-at o))
 
-    -- k is the edge's mask
-    module _ {k : ℕ} (r : k ≡ getD (m .reset) e 0) where
-      mask-below : k < maskCount
-      mask-below =
-          lt-of-lt-of-le (rw r (ok .ranges .reset e))
-          (three (λ n. 2 ^ n ≤ maskCount) (omega arith) (omega arith) (omega arith) (m .clocks) (clocks-of m ok))
+    -- k is the edge's mask, j the region's number after the reset, y the edge's target
+    module _ {k j y : ℕ} (r : k ≡ getD (m .reset) e 0)
+        (u : j ≡ indexIn (regions (m .clocks) (m .ceiling)) (closeUp (resetClocks (maskBits (m .clocks) k) (view (m .clocks) g))))
+        (v : y ≡ targetOf m e) where
+      reset-is : j ≡ indexIn (regionsOf (automatonOf m)) (after (edgeOf m e) (getD (regionsOf (automatonOf m)) i []))
+      unfolding automatonOf
+      reset-is =
+          u
+          ∙ ap₂ (λ x xs. indexIn (regions (m .clocks) (m .ceiling)) (closeUp (resetClocks (maskBits (m .clocks) x) xs))) r (s .is)
 
-      pub reset-place : k * count + i < length moved
+      below : j < count
       unfolding regionCount automatonOf
-      reset-place =
-          let h : i < count = omega (arith, s .region) in
-          let b : (k + 1) * count ≤ maskCount * count = mul-le-mul-right count (omega (arith, mask-below)) in
-          omega (arith, w .long, add-mul k 1 count)
+      below = rw (u, c, s .is) (reset-below (m .clocks) (m .ceiling) k i (s .region))
 
-      -- j is the region's number after the reset, y the edge's target
-      module _ {j y : ℕ} (u : j ≡ getD moved (k * count + i) 0) (v : y ≡ targetOf m e) where
-        reset-is : j ≡ indexIn (regionsOf (automatonOf m)) (after (edgeOf m e) (getD (regionsOf (automatonOf m)) i []))
-        unfolding regionCount automatonOf
-        reset-is =
-            u
-            ∙ ap (λ x. getD moved (k * x + i) 0) c
-            ∙ w .is k i mask-below (s .region)
-            ∙ ap (λ x. indexIn (regions (m .clocks) (m .ceiling))
-            (closeUp (resetClocks (maskBits (m .clocks) x) (getD (regions (m .clocks) (m .ceiling)) i [])))) r
+      pub target-in : y * count + j < length allowed
+      target-in =
+          let b : (y + 1) * count ≤ m .locations * count = mul-le-mul-right count (omega (arith, ok .ranges .target e)) in
+          let a : m .locations * count ≡ states m = ap (λ x. m .locations * x) c in
+          omega (arith, below, f .long, add-mul y 1 count)
 
-        reset-below : j < count
-        unfolding regionCount automatonOf
-        reset-below = rw (u, c) (moved-below (m .clocks) (m .ceiling) moved w k i mask-below (s .region))
-
-        pub target-in : y * count + j < length allowed
-        target-in =
-            let b : (y + 1) * count ≤ m .locations * count = mul-le-mul-right count (omega (arith, ok .ranges .target e)) in
-            let a : m .locations * count ≡ states m = ap (λ x. m .locations * x) c in
-            omega (arith, reset-below, f .long, add-mul y 1 count)
-
-        pub jump-puts : {t t′ : List ℕ} {n n′ : ℕ} → guardHolds (edgeOf m e) (view (m .clocks) g) ≡ true
-            → Puts 1 (IfFlagged allowed (y * count + j)) t t′ n n′
-            → Puts 1 (Leads (labelledOfModel m) (suc e) (stateOf m (sourceOf m e) i)) t t′ n n′
-        jump-puts o p = puts-same p (λ q.
-            let (a, b) = enters q (ok .ranges .target e) reset-is in
-            let (f, h) = jump-leads m ok e i d (s .region) (s .allowed) (guard-at o) q in
-            (λ z. f (a (reset-below, (rw v at z))), λ z. rw v (b (h z) .1)))
+      pub jump-puts : {t t′ : List ℕ} {n n′ : ℕ} → guardHolds (edgeOf m e) (view (m .clocks) g) ≡ true
+          → Puts 1 (IfFlagged allowed (y * count + j)) t t′ n n′
+          → Puts 1 (Leads (labelledOfModel m) (suc e) (stateOf m (sourceOf m e) i)) t t′ n n′
+      jump-puts o p = puts-same p (λ q.
+          let (a, b) = enters q (ok .ranges .target e) reset-is in
+          let (f, h) = jump-leads m ok e i d (s .region) (s .allowed) (guard-at o) q in
+          (λ z. f (a (below, (rw v at z))), λ z. rw v (b (h z) .1)))
 
 -- ---- a row: the time step, and the jumps along the edges, one after the other
 

@@ -12,7 +12,7 @@ use Rattle.theory.specs.StateGraph.{regionCount, allowedState}
 use Rattle.theory.specs.Adjacency.{Holds}
 use Rattle.region.specs.View.{view, Known}
 use Rattle.region.specs.declared.Region.{Region}
-use Rattle.region_steps.specs.Tables.{Laters, Resets}
+use Rattle.region_steps.specs.Tables.{Indexed, Laters}
 use Rattle.model.specs.declared.Model.{Model}
 use Rattle.model.specs.Model.{Lawful, sourceOf}
 use Rattle.graph.specs.Plan.{automatonOf, systemOfModel}
@@ -27,13 +27,14 @@ regionsIn m = regionCount (automatonOf m)
 abbrev pub stateOf : Model → ℕ → ℕ → ℕ
 stateOf m l i = l * regionsIn m + i
 
--- ---- what the lists are filled from: the regions of a model, their time successors and resets by number, and its allowed states
+-- ---- what the lists are filled from: the regions of a model, their time successors by number, the number at each code, and its
+-- allowed states
 
-pub record Given (m : Model) (table later moved allowed : List ℕ) : Type 0 where
+pub record Given (m : Model) (table later index allowed : List ℕ) : Type 0 where
   pub lawful : Lawful m
   pub listed : Listed m table
   pub laters : Laters (m .clocks) (m .ceiling) later
-  pub resets : Resets (m .clocks) (m .ceiling) moved
+  pub indexed : Indexed (m .clocks) (m .ceiling) index
   pub flags : AllowedFlags m allowed
 
 -- ---- what is put for a state

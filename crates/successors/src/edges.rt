@@ -70,10 +70,10 @@ pub fn opens(w: u32, g: Region) -> bool
     false
 }
 
-pub fn mask(w: u32) -> usize
+pub fn mask(w: u32) -> u8
     ensures { λ r. ⌜ r ≡ maskPart w ⌝ }
 {
-    (w / 8 % 8) as usize
+    (w / 8 % 8) as u8
 }
 
 pub fn target(w: u32) -> usize

@@ -8,7 +8,7 @@ ghost use Prim.Native.Nat.{suc, _+_, _*_, _≤_, _<_};
 ghost use lib.ListN.{length, take};
 ghost use Rattle.theory.specs.Below.{bit};
 ghost use Rattle.theory.specs.Labels.{Leads};
-ghost use Rattle.region_steps.specs.Tables.{Resets};
+ghost use Rattle.region_steps.specs.Tables.{Indexed};
 ghost use Rattle.model.specs.Model.{Lawful, sourceOf};
 ghost use Rattle.graph.specs.Plan.{systemOfModel, labelledOfModel};
 ghost use Rattle.graph.specs.States.{Listed, states};
@@ -130,7 +130,7 @@ fn put_time(
 fn put_jump(
     m: Model,
     count: usize,
-    moved: &[u16],
+    index: &[u16],
     allowed: &[u8],
     e: usize,
     w: u32,
@@ -140,7 +140,7 @@ fn put_jump(
     n: usize,
 ) -> usize
     requires { ⌜
-        Lawful m × (count ≡ regionsIn m) × Resets (m .clocks) (m .ceiling) (now moved) × AllowedFlags m (now allowed) × (e < m .edges)
+        Lawful m × (count ≡ regionsIn m) × Indexed (m .clocks) (m .ceiling) (now index) × AllowedFlags m (now allowed) × (e < m .edges)
         × AllowedAt m (sourceOf m e) i g × (n < length (now targets)) × (w ≡ edgeWord m e)
         ⌝ }
     ensures { λ r. ⌜
@@ -148,7 +148,7 @@ fn put_jump(
         ⌝ }
 {
     if edges::opens(w, g) {
-        let j = from_short(moved[edges::mask(w) * count + i]);
+        let j = region_steps::reset_number(index, g, edges::mask(w));
         return put(allowed, edges::target(w) * count + j, targets, n);
     }
     n
@@ -159,7 +159,7 @@ fn put_row(
     m: Model,
     table: &[u32],
     later: &[u16],
-    moved: &[u16],
+    index: &[u16],
     allowed: &[u8],
     edges: &[u8],
     words: &[u32],
@@ -169,7 +169,7 @@ fn put_row(
     n: usize,
 ) -> usize
     requires { ⌜
-        Given m (now table) (now later) (now moved) (now allowed) × LeavingEdges m l (now edges) × (i < length (now table))
+        Given m (now table) (now later) (now index) (now allowed) × LeavingEdges m l (now edges) × (i < length (now table))
         × (n + length (now edges) < length (now targets)) × EdgeWords m (now words)
         ⌝ }
     ensures { λ r. ⌜
@@ -187,7 +187,7 @@ fn put_row(
     let mut k = 0;
     while k < edges.len() {
         let e = from_byte(edges[k]);
-        end = put_jump(m, count, moved, allowed, e, words[e], i, g, targets, end);
+        end = put_jump(m, count, index, allowed, e, words[e], i, g, targets, end);
         k += 1;
     }
     end
@@ -198,7 +198,7 @@ fn put_rows(
     m: Model,
     table: &[u32],
     later: &[u16],
-    moved: &[u16],
+    index: &[u16],
     allowed: &[u8],
     edges: &[u8],
     words: &[u32],
@@ -208,7 +208,7 @@ fn put_rows(
     n: usize,
 ) -> usize
     requires { ⌜
-        Given m (now table) (now later) (now moved) (now allowed) × LeavingEdges m l (now edges)
+        Given m (now table) (now later) (now index) (now allowed) × LeavingEdges m l (now edges)
         × (n ≤ room m l) × (states m + m .edges * regionsIn m ≤ length (now targets))
         × HoldsBelow (now first) (now targets) (states m) (systemOfModel m .flow) (l * regionsIn m) n × EdgeWords m (now words)
         ⌝ }
@@ -225,7 +225,7 @@ fn put_rows(
             m,
             table,
             later,
-            moved,
+            index,
             allowed,
             edges,
             words,
@@ -245,7 +245,7 @@ fn fill_location(
     m: Model,
     table: &[u32],
     later: &[u16],
-    moved: &[u16],
+    index: &[u16],
     allowed: &[u8],
     words: &[u32],
     l: usize,
@@ -254,7 +254,7 @@ fn fill_location(
     n: usize,
 ) -> usize
     requires { ⌜
-        Given m (now table) (now later) (now moved) (now allowed) × (l < m .locations)
+        Given m (now table) (now later) (now index) (now allowed) × (l < m .locations)
         × (n ≤ room m l) × (states m + m .edges * regionsIn m ≤ length (now targets))
         × HoldsBelow (now first) (now targets) (states m) (systemOfModel m .flow) (l * regionsIn m) n × EdgeWords m (now words)
         ⌝ }
@@ -269,7 +269,7 @@ fn fill_location(
         m,
         table,
         later,
-        moved,
+        index,
         allowed,
         &edges[..count],
         words,
@@ -286,13 +286,13 @@ pub fn fill_flow(
     m: Model,
     table: &[u32],
     later: &[u16],
-    moved: &[u16],
+    index: &[u16],
     allowed: &[u8],
     first: &mut [u32],
     targets: &mut [Word],
 )
     requires { ⌜
-        Given m (now table) (now later) (now moved) (now allowed) × (length (now first) ≡ states m + 1)
+        Given m (now table) (now later) (now index) (now allowed) × (length (now first) ≡ states m + 1)
         × (states m + m .edges * length (now table) ≤ length (now targets))
         ⌝ }
     ensures { λ _. ⌜ FlowLists m (now (first .exit)) (now (targets .exit)) ⌝ }
@@ -308,7 +308,7 @@ pub fn fill_flow(
             m,
             table,
             later,
-            moved,
+            index,
             allowed,
             &words,
             l,

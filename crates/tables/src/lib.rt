@@ -1,16 +1,13 @@
 // The tables of a model: by region its faces and corners, by state which are allowed and where time and jumps lead. They are filled here, and nowhere else.
 
 ghost use mathlib.Core.Path.{_≡_};
-ghost use Prim.Native.Nat.{_+_, _*_, _≤_};
 ghost use lib.ListN.{length};
-ghost use Rattle.limits.specs.Limits.{maskCount};
 ghost use Rattle.model.specs.Model.{Lawful};
 ghost use Rattle.graph.specs.States.{Listed};
 ghost use Rattle.region_steps.specs.Tables.{Indexed};
 ghost use Rattle.successors.specs.Flow.{regionsIn};
 ghost use Rattle.tables.specs.Tables.{StepRoom, Steps, Room, Filled};
 use limits::CODES;
-use limits::MASKS;
 use limits::MAX_REGIONS;
 use limits::Word;
 use model::Model;
@@ -21,21 +18,17 @@ fn fill_steps(
     table: &[u32],
     index: &[u16],
     later: &mut [u16],
-    moved: &mut [u16],
     allowed: &mut [u8],
     first: &mut [u32],
     targets: &mut [Word],
 )
     requires { ⌜ Lawful m × Listed m (now table) × Indexed (m .clocks) (m .ceiling) (now index) ⌝ }
-    requires { ⌜ (length (now later) ≡ regionsIn m) × (length (now moved) ≡ maskCount * regionsIn m) × StepRoom m (now allowed) (now first) (now targets) ⌝ }
+    requires { ⌜ (length (now later) ≡ regionsIn m) × StepRoom m (now allowed) (now first) (now targets) ⌝ }
     ensures { λ _. ⌜ Steps m (now (allowed .exit)) (now (first .exit)) (now (targets .exit)) ⌝ }
 {
-    let n = m.clocks;
-    let ceiling = m.ceiling;
-    region_steps::fill_later(n, ceiling, table, index, later);
-    region_steps::fill_resets(n, ceiling, table, index, moved);
+    region_steps::fill_later(m.clocks, m.ceiling, table, index, later);
     successors::fill_allowed(m, table, allowed);
-    successors::fill_flow(m, table, later, moved, allowed, first, targets);
+    successors::fill_flow(m, table, later, index, allowed, first, targets);
 }
 
 // The same with tables by region of its own.
@@ -52,19 +45,8 @@ fn list_steps(
     ensures { λ _. ⌜ Steps m (now (allowed .exit)) (now (first .exit)) (now (targets .exit)) ⌝ }
 {
     let mut later = [0u16; MAX_REGIONS];
-    let mut moved = [0u16; MASKS * MAX_REGIONS];
     let r = table.len();
-    let masked = MASKS * r;
-    fill_steps(
-        m,
-        table,
-        index,
-        &mut later[..r],
-        &mut moved[..masked],
-        allowed,
-        first,
-        targets,
-    );
+    fill_steps(m, table, index, &mut later[..r], allowed, first, targets);
 }
 
 // All tables of a model. `table` has its regions, packed.

@@ -14,14 +14,14 @@ use Rattle.successors.proofs.fill_flow.Statement.{statement}
 use Rattle.successors.proofs.fill_flow.Tie as tie
 
 abbrev Inv-loop : tie.InvT-loop
-Inv-loop m table later moved allowed first₀ targets₀ locations words n₀ l₀ first targets n l =
+Inv-loop m table later index allowed first₀ targets₀ locations words n₀ l₀ first targets n l =
     (l ≤ m .locations)
     × (n ≤ room m l)
     × (length targets ≡ length targets₀)
     × HoldsBelow first targets (states m) (systemOfModel m .flow) (l * regionsIn m) n
 
 abbrev μ-loop : tie.MeasureT-loop
-μ-loop m table later moved allowed first₀ targets₀ locations words n₀ l₀ first targets n l = m .locations - l
+μ-loop m table later index allowed first₀ targets₀ locations words n₀ l₀ first targets n l = m .locations - l
 
 pub fill-flow-spec : {M : Type 1} → statement M
 fill-flow-spec =

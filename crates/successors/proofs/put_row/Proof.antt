@@ -16,11 +16,11 @@ use Rattle.successors.proofs.put_row.Statement.{statement}
 use Rattle.successors.proofs.put_row.Tie as tie
 
 abbrev Inv-loop : tie.InvT-loop
-Inv-loop m table later moved allowed edges words l i targets₀ n count base g end₀ k₀ targets end k =
+Inv-loop m table later index allowed edges words l i targets₀ n count base g end₀ k₀ targets end k =
     (k ≤ length edges) × Puts k (JumpsTo m edges k (stateOf m l i)) targets₀ targets end₀ end
 
 abbrev μ-loop : tie.MeasureT-loop
-μ-loop m table later moved allowed edges words l i targets₀ n count base g end₀ k₀ targets end k = length edges - k
+μ-loop m table later index allowed edges words l i targets₀ n count base g end₀ k₀ targets end k = length edges - k
 
 pub put-row-spec : {M : Type 1} → statement M
 put-row-spec =
@@ -57,7 +57,7 @@ put-row-spec =
     let e = edge-below (s .pre .0) (s .pre .1) a (c .before .before .before .before .loop-test .taken) (c .before .before .from-byte .ensures) in (
       s .pre .0 .lawful,
       count-is (s .pre .0 .lawful) (s .pre .0 .listed),
-      s .pre .0 .resets,
+      s .pre .0 .indexed,
       s .pre .0 .flags,
       e,
       edge-here (s .pre .0) (s .pre .1) a (c .before .before .before .before .loop-test .taken) (c .before .before .from-byte .ensures),

@@ -15,14 +15,14 @@ use Rattle.successors.proofs.put_rows.Statement.{statement}
 use Rattle.successors.proofs.put_rows.Tie as tie
 
 abbrev Inv-loop : tie.InvT-loop
-Inv-loop m table later moved allowed edges words l first₀ targets₀ n base end₀ i₀ first targets end i =
+Inv-loop m table later index allowed edges words l first₀ targets₀ n base end₀ i₀ first targets end i =
     (i ≤ length table)
     × (end ≤ room m l + (length edges + 1) * i)
     × (length targets ≡ length targets₀)
     × HoldsBelow first targets (states m) (systemOfModel m .flow) (stateOf m l i) end
 
 abbrev μ-loop : tie.MeasureT-loop
-μ-loop m table later moved allowed edges words l first₀ targets₀ n base end₀ i₀ first targets end i = length table - i
+μ-loop m table later index allowed edges words l first₀ targets₀ n base end₀ i₀ first targets end i = length table - i
 
 pub put-rows-spec : {M : Type 1} → statement M
 put-rows-spec =

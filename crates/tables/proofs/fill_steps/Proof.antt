@@ -8,31 +8,28 @@ use Rattle.tables.proofs.fill_steps.Tie as tie
 
 fill-later-requires : tie.Need-fill-later-requires
 fill-later-requires c κs =
-    let start = c .before .before .before .before .before .before .before .before in
+    let start = c .before .before .before .before .before .before .before in
     let m = start .args .m in
     let ok = start .pre .0 .0 in
     (clocks-of m ok, ceiling-of m ok, start .pre .0 .1, start .pre .0 .2, start .pre .1 .0 ∙ regions-are m ok)
 
-fill-resets-requires : tie.Need-fill-resets-requires
-fill-resets-requires c κs = search needs
-
 fill-allowed-requires : tie.Need-fill-allowed-requires
 fill-allowed-requires c κs =
-    let start = c .before .before .before .before .before .before .before .before .before .before .before .before .before .before .before .before in
-    (start .pre .0 .0, start .pre .0 .1, start .pre .1 .2 .flags)
+    let start = c .before .before .before .before .before .before .before .before .before .before .before in
+    (start .pre .0 .0, start .pre .0 .1, start .pre .1 .1 .flags)
 
 fill-flow-requires : tie.Need-fill-flow-requires
 fill-flow-requires c κs =
-    let start = c .before .before .before .before .before .before .before .before .before .before .before .before .before .before .before .before .before .before .before .before .before .before .before .before in
+    let start = c .before .before .before .before .before .before .before .before .before .before .before .before .before .before .before .before .before .before in
     let m = start .args .m in
     let ok = start .pre .0 .0 in
-    let room = start .pre .1 .2 in (
+    let room = start .pre .1 .1 in (
       record {
         lawful = ok;
         listed = start .pre .0 .1;
-        laters = c .before .before .before .before .before .before .before .before .before .before .before .before .before .before .before .fill-later .ensures;
-        resets = c .before .before .before .before .before .before .before .before .before .before .before .fill-resets .ensures;
-        flags = c .before .before .before .before .before .before .before .fill-allowed .ensures;
+        laters = c .before .before .before .before .before .before .before .before .before .before .fill-later .ensures;
+        indexed = start .pre .0 .2;
+        flags = c .before .before .before .before .before .before .fill-allowed .ensures;
       },
       room .starts,
       rw (table-long m ok _ (start .pre .0 .1)) (room .steps),
@@ -50,24 +47,19 @@ same-length-3 c = search needs
 same-length-4 : tie.Need-same-length-4
 same-length-4 c = search needs
 
-same-length-5 : tie.Need-same-length-5
-same-length-5 c = search needs
-
 returns : tie.Need-returns
 returns c =
-    record { flags = c .before .before .before .before .before .before .before .before .before .before .before .before .fill-allowed .ensures; flow = c .before .before .before .before .fill-flow .ensures }
+    record { flags = c .before .before .before .before .before .before .before .before .before .before .before .fill-allowed .ensures; flow = c .before .before .before .before .fill-flow .ensures }
 
 pub fill-steps-spec : {M : Type 1} → statement M
 fill-steps-spec =
     tie.close
     (tie.spec
     fill-later-requires
-    fill-resets-requires
     fill-allowed-requires
     fill-flow-requires
     same-length
     same-length-2
     same-length-3
     same-length-4
-    same-length-5
     returns)
