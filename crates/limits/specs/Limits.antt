@@ -80,3 +80,14 @@ smallStates = maxLocations * smallRegions
 
 abbrev pub smallSteps : ℕ
 smallSteps = smallStates + maxEdges * smallRegions
+
+-- ---- an edge in one number of eight digits: a low and a high for each clock, the reset mask, the target
+
+abbrev pub digitBase : ℕ
+digitBase = 16
+
+abbrev pub twoDigits : ℕ
+twoDigits = digitBase * digitBase
+
+abbrev pub threeDigits : ℕ
+threeDigits = digitBase * digitBase * digitBase

@@ -1,7 +1,7 @@
 // Each constant is the number that contracts name.
 
 ghost use mathlib.Core.Path.{_≡_};
-ghost use Rattle.limits.specs.Limits.{maxClocks, maxCeiling, maxLocations, maxEdges, maxRegions, maxStates, maxSteps, maskCount, slotCount, pointBase, pointCount, wholeBase, rankBase, rankCodeCount, codeCount, maxFaces, levelFlag, smallRegions, smallStates, smallSteps};
+ghost use Rattle.limits.specs.Limits.{maxClocks, maxCeiling, maxLocations, maxEdges, maxRegions, maxStates, maxSteps, maskCount, slotCount, pointBase, pointCount, wholeBase, rankBase, rankCodeCount, codeCount, maxFaces, levelFlag, smallRegions, smallStates, smallSteps, digitBase, twoDigits, threeDigits};
 
 pub fn clocks() -> usize
     ensures { λ r. ⌜ r ≡ maxClocks ⌝ }
@@ -121,4 +121,22 @@ pub fn small_steps() -> usize
     ensures { λ r. ⌜ r ≡ smallSteps ⌝ }
 {
     super::SMALL_STEPS
+}
+
+pub fn digit_base() -> u32
+    ensures { λ r. ⌜ r ≡ digitBase ⌝ }
+{
+    super::DIGIT_BASE
+}
+
+pub fn two_digits() -> u32
+    ensures { λ r. ⌜ r ≡ twoDigits ⌝ }
+{
+    super::TWO_DIGITS
+}
+
+pub fn three_digits() -> u32
+    ensures { λ r. ⌜ r ≡ threeDigits ⌝ }
+{
+    super::THREE_DIGITS
 }

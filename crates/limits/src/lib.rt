@@ -64,3 +64,11 @@ pub const SMALL_REGIONS: usize = 3 * 3 * 3 + 3 * 2 * 3 * 3 + 9 * 2 * 2 * 3 + 13 
 pub const SMALL_STATES: usize = MAX_LOCATIONS * SMALL_REGIONS;
 
 pub const SMALL_STEPS: usize = SMALL_STATES + MAX_EDGES * SMALL_REGIONS;
+
+// ---- an edge in one number of eight digits: a low and a high for each clock, the reset mask, the target
+
+pub const DIGIT_BASE: u32 = 16;
+
+pub const TWO_DIGITS: u32 = DIGIT_BASE * DIGIT_BASE;
+
+pub const THREE_DIGITS: u32 = DIGIT_BASE * DIGIT_BASE * DIGIT_BASE;

@@ -11,7 +11,7 @@ use lib.Dec.{ltb}
 use lib.Seq.{getD-set-same, getD-set-other}
 use Rattle.theory.specs.Region.{fits, attains}
 use Rattle.theory.specs.RegionGraph.{guardHolds}
-use Rattle.limits.specs.Limits.{maxClocks, maskCount}
+use Rattle.limits.specs.Limits.{maxClocks, digitBase, twoDigits, threeDigits}
 use Rattle.region.specs.View.{view, Known}
 use Rattle.region.specs.declared.Region.{Region}
 use Rattle.region.proofs.Views.{three}
@@ -21,48 +21,48 @@ use Rattle.graph.specs.Plan.{edgeOf}
 use Rattle.graph.proofs.States.{clocks-of, guard-opens, guard-shuts}
 use Rattle.successors.specs.Words.{digits, digitList, wordBound, lowPart, highPart, maskPart, targetPart, lowAt, edgeWord, WordsBelow}
 
-digits-below : {a b c : ℕ} → a < 8 → b < 8 → c < 8 → digits a b c < 512
+digits-below : {a b c : ℕ} → a < digitBase → b < digitBase → c < digitBase → digits a b c < threeDigits
 digits-below i j k = omega arith
 
-digits-back : {a b c : ℕ} → a < 8 → b < 8 → c < 8 → digitList (digits a b c) ≡ a ∷ b ∷ c ∷ []
+digits-back : {a b c : ℕ} → a < digitBase → b < digitBase → c < digitBase → digitList (digits a b c) ≡ a ∷ b ∷ c ∷ []
 digits-back {a} {b} {c} i j k =
-    let x : digits a b c / 64 ≡ a = omega arith in
-    let y : digits a b c / 8 % 8 ≡ b = omega arith in
-    let z : digits a b c % 8 ≡ c = omega arith in
+    let x : digits a b c / twoDigits ≡ a = omega arith in
+    let y : digits a b c / digitBase % digitBase ≡ b = omega arith in
+    let z : digits a b c % digitBase ≡ c = omega arith in
     rw (x, y, z)
 
-low-back : (a b c : ℕ) → b < 512 → c < 64 → lowPart ((a * 512 + b) * 64 + c) ≡ a
+low-back : (a b c : ℕ) → b < threeDigits → c < twoDigits → lowPart ((a * threeDigits + b) * twoDigits + c) ≡ a
 low-back a b c j k = omega arith
 
-high-back : (a b c : ℕ) → b < 512 → c < 64 → highPart ((a * 512 + b) * 64 + c) ≡ b
+high-back : (a b c : ℕ) → b < threeDigits → c < twoDigits → highPart ((a * threeDigits + b) * twoDigits + c) ≡ b
 high-back a b c j k = omega arith
 
-mask-back : (a b c : ℕ) → b < 8 → c < 8 → maskPart (a * 64 + digits 0 b c) ≡ b
+mask-back : (a b c : ℕ) → b < digitBase → c < digitBase → maskPart (a * twoDigits + digits 0 b c) ≡ b
 mask-back a b c j k = omega arith
 
-target-back : (a b c : ℕ) → b < 8 → c < 8 → targetPart (a * 64 + digits 0 b c) ≡ c
+target-back : (a b c : ℕ) → b < digitBase → c < digitBase → targetPart (a * twoDigits + digits 0 b c) ≡ c
 target-back a b c j k = omega arith
 
 module _ (m : Model) (ok : Lawful m) where
-  pub high-below : (i : ℕ) → getD (m .upper) i 0 < 8
+  pub high-below : (i : ℕ) → getD (m .upper) i 0 < digitBase
   high-below i = omega (arith, ok .ranges .upper i, ok .ceiling .1)
 
-  pub low-below : (i : ℕ) → getD (m .lower) i 0 < 8
+  pub low-below : (i : ℕ) → getD (m .lower) i 0 < digitBase
   low-below i = omega (arith, ok .ranges .lower i, high-below i)
 
-  pub counted-below : (n i : ℕ) → lowAt m n i < 8
+  pub counted-below : (n i : ℕ) → lowAt m n i < digitBase
   counted-below n i = by (ltb (m .clocks) n)
     where
-      by : (b : Bool) → cond b 0 (getD (m .lower) i 0) < 8
+      by : (b : Bool) → cond b 0 (getD (m .lower) i 0) < digitBase
       by true = omega arith
       by false = low-below i
 
-  pub mask-below : (e : ℕ) → getD (m .reset) e 0 < 8
+  pub mask-below : (e : ℕ) → getD (m .reset) e 0 < digitBase
   mask-below e =
       lt-of-lt-of-le (ok .ranges .reset e)
-      (three (λ n. 2 ^ n ≤ maskCount) (omega arith) (omega arith) (omega arith) (m .clocks) (clocks-of m ok))
+      (three (λ n. 2 ^ n ≤ digitBase) (omega arith) (omega arith) (omega arith) (m .clocks) (clocks-of m ok))
 
-  pub target-below : (e : ℕ) → targetOf m e < 8
+  pub target-below : (e : ℕ) → targetOf m e < digitBase
   target-below e = omega (arith, ok .ranges .target e, ok .locations .1)
 
   low : ℕ → ℕ
@@ -75,19 +75,19 @@ module _ (m : Model) (ok : Lawful m) where
   ends e = digits 0 (getD (m .reset) e 0) (targetOf m e)
 
   module _ (e : ℕ) {w : ℕ} (r : w ≡ edgeWord m e) where
-    word-is : w ≡ (low e * 512 + high e) * 64 + ends e
+    word-is : w ≡ (low e * threeDigits + high e) * twoDigits + ends e
     unfolding edgeWord low high ends
     word-is = r
 
-    low-is : low e < 512
+    low-is : low e < threeDigits
     unfolding low
     low-is = digits-below (low-below _) (counted-below 2 _) (counted-below 3 _)
 
-    high-is : high e < 512
+    high-is : high e < threeDigits
     unfolding high
     high-is = digits-below (high-below _) (high-below _) (high-below _)
 
-    ends-is : ends e < 64
+    ends-is : ends e < twoDigits
     unfolding ends
     ends-is = omega (arith, mask-below e, target-below e)
 
@@ -96,11 +96,11 @@ module _ (m : Model) (ok : Lawful m) where
 
     pub mask-is : maskPart w ≡ getD (m .reset) e 0
     unfolding ends
-    mask-is = ap maskPart word-is ∙ mask-back (low e * 512 + high e) (getD (m .reset) e 0) (targetOf m e) (mask-below e) (target-below e)
+    mask-is = ap maskPart word-is ∙ mask-back (low e * threeDigits + high e) (getD (m .reset) e 0) (targetOf m e) (mask-below e) (target-below e)
 
     pub target-is : targetPart w ≡ targetOf m e
     unfolding ends
-    target-is = ap targetPart word-is ∙ target-back (low e * 512 + high e) (getD (m .reset) e 0) (targetOf m e) (mask-below e) (target-below e)
+    target-is = ap targetPart word-is ∙ target-back (low e * threeDigits + high e) (getD (m .reset) e 0) (targetOf m e) (mask-below e) (target-below e)
 
     low-list : digitList (lowPart w)
         ≡ getD (m .lower) (maxClocks * e) 0 ∷ lowAt m 2 (maxClocks * e + 1) ∷ lowAt m 3 (maxClocks * e + 2) ∷ []
