@@ -1,12 +1,12 @@
 // The table of all regions (01, "Regions"): selection for a plan's clocks and ceiling, counts, and the index of a region.
 ghost use mathlib.Core.Path.{_≡_};
-ghost use mathlib.Core.Bool.{cond};
+ghost use mathlib.Core.Bool.{cond, _&&_};
 ghost use mathlib.Core.List.{_++_};
 ghost use Prim.Native.Nat.{_≤_, _<_};
-ghost use lib.Dec.{leb};
+ghost use lib.Dec.{eqb, leb};
 ghost use lib.ListN.{length, getD, drop};
 ghost use Rattle.theory.specs.Region.{regions};
-ghost use Rattle.limits.specs.Limits.{maxRegions};
+ghost use Rattle.limits.specs.Limits.{maxClocks, maxCeiling, maxRegions};
 ghost use Rattle.region.specs.Limits.{Clocks, Ceiling};
 ghost use Rattle.region.specs.Packed.{packedBound};
 ghost use Rattle.region_table.specs.Table.{packedRegions, chosen, Gap, Skips};
@@ -14,6 +14,8 @@ ghost use Rattle.region_table.specs.Lookup.{foundIn, Increasing, Place};
 
 mod table;
 
+use limits::MAX_CEILING;
+use limits::MAX_CLOCKS;
 use limits::MAX_REGIONS;
 use region::Region;
 use table::entries;
@@ -88,6 +90,27 @@ fn next(n: u8, ceiling: u8, all: &[u32], i: usize) -> usize
     place(all, q)
 }
 
+// Whether the whole table is asked for.
+fn is_whole(n: u8, ceiling: u8) -> bool
+    ensures { λ b. ⌜ b ≡ eqb n maxClocks && eqb ceiling maxCeiling ⌝ }
+{
+    (n as usize == MAX_CLOCKS) & (ceiling as usize == MAX_CEILING)
+}
+
+// All numbers of a slice at the front of out; how many.
+fn copy_all(all: &[u32], out: &mut [u32]) -> usize
+    requires { ⌜ length (now all) ≤ length (now out) ⌝ }
+    ensures { λ k. ⌜ k ≡ length (now (all .entry)) ⌝ }
+    ensures { λ k. ⌜ now (out .exit) ≡ now (all .entry) ++ drop k (now (out .entry)) ⌝ }
+{
+    let mut i = 0;
+    while i < all.len() {
+        out[i] = all[i];
+        i += 1;
+    }
+    i
+}
+
 // The regions of n clocks at the ceiling, packed and in order, at the front of out; how many.
 pub fn select(n: u8, ceiling: u8, out: &mut [u32]) -> usize
     requires { ⌜ Clocks n × Ceiling ceiling × (maxRegions ≤ length (now out)) ⌝ }
@@ -96,6 +119,9 @@ pub fn select(n: u8, ceiling: u8, out: &mut [u32]) -> usize
     ensures { λ k. ⌜ k ≤ maxRegions ⌝ }
 {
     let all = entries();
+    if is_whole(n, ceiling) {
+        return copy_all(&all, out);
+    }
     let mut i = 0;
     let mut k = 0;
     while i < MAX_REGIONS {
