@@ -37,5 +37,6 @@ word-spec =
     (λ c. search needs)
     (λ c κs. let s = c .before .before .before .before .before .before .before .before .before .before .before .before in
     (omega arith, mask-below (s .args .t1) (s .pre .0) (s .args .e), target-below (s .args .t1) (s .pre .0) (s .args .e)))
-    (λ c. search needs)
+    (λ c. let s = c .before .before .before .before .before .before .before .before .before .before .before .before .before in
+    omega (arith, mask-below (s .args .t1) (s .pre .0) (s .args .e), target-below (s .args .t1) (s .pre .0) (s .args .e)))
     (λ c. search needs))
