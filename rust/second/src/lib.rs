@@ -4,7 +4,7 @@
 //! steps, the marked set, evidence, calls. `limits` has the limits of all of
 //! them. `brute` does everything again by naive definitions; `generate`,
 //! `mutate` and `other` make inputs for comparisons, `cases` those of a proved
-//! program.
+//! program with their answers.
 
 // Loops over clocks and states index several lists at once.
 #![allow(clippy::needless_range_loop)]

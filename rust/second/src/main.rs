@@ -5,11 +5,8 @@ use second::bench::bench;
 use second::calls::{check_evidence, marks};
 use second::cases::{answers, cases};
 use second::generate::{generate, shares, KINDS};
-use second::graph::{Graph, JUMP, TIME};
-use second::model::read_model;
 use second::mutate;
 use second::program::{bytes_of_text, evidence_bytes, judge_lines, refusal_line, OUTPUT, SCRATCH};
-use second::regions::Regions;
 use std::io::{Read, Write};
 use std::process::ExitCode;
 
@@ -20,14 +17,12 @@ second judge FILE|- [SCRATCH]            three lines, or the refusal line
 second evidence FILE|- [SCRATCH]         evidence bytes, or the refusal line
 second marks FILE|- [SCRATCH]            one byte per state, 1 or 0, or the refusal line
 second check MODEL EVIDENCE [SCRATCH]    passes 1, passes 2, or the refusal line
-second regions                           checksums of all region tables
-second steps FILE|-                      states, allowed ones, checksums of their steps
 second generate SEED KIND                a model's bytes
 second generate --kinds                  the kinds
 second generate --shares [COUNT]         shares of kinds, classes and refusals
 second mutate SEED MODEL EVIDENCE [KIND] changed evidence
 second mutate --kinds                    the kinds of change
-second cases                             cases of evidence for several plans
+second cases                             cases of operations and evidence
 second answers FILE|- [SCRATCH]          those cases with their answers
 second bench                             timings
 
@@ -86,8 +81,6 @@ fn run(mut arguments: Vec<String>) -> Result<Vec<u8>, String> {
                 .into_bytes(),
             )
         }
-        ["regions"] => Ok(region_lines().into_bytes()),
-        ["steps", file] => Ok(step_line(&read(file)?).into_bytes()),
         ["generate", "--kinds"] => Ok(KINDS.map(|kind| format!("{kind}\n")).concat().into_bytes()),
         ["generate", "--shares"] => Ok(shares(1_000).into_bytes()),
         ["generate", "--shares", count] => Ok(shares(number(count)?).into_bytes()),
@@ -149,50 +142,4 @@ fn read(file: &str) -> Result<Vec<u8>, String> {
         return bytes_of_text(&text).map_err(|error| format!("{file}: {error}"));
     }
     Ok(bytes)
-}
-
-/// One line per number of clocks and ceiling: clocks, ceiling, count, and the
-/// checksums of successors, corners, faces and near regions.
-fn region_lines() -> String {
-    let mut lines = String::new();
-    for table in Regions::all() {
-        let [successors, corners, faces, near] = table.checksums();
-        lines += &format!(
-            "{} {} {} {successors} {corners} {faces} {near}\n",
-            table.clocks,
-            table.ceiling,
-            table.count()
-        );
-    }
-    lines
-}
-
-/// The number of states, how many are allowed, and checksums of the time and
-/// of the jump steps: acc = (31 acc + value + 1) mod 1,000,003 over all states
-/// in order, for jumps edge by edge. The value is the state that the step
-/// leads to, or the number of states if there is none.
-fn step_line(bytes: &[u8]) -> String {
-    let model = match read_model(bytes) {
-        Ok(model) => model,
-        Err(refusal) => return refusal_line(refusal),
-    };
-    let edges = model.edges.len();
-    let graph = Graph::new(model);
-    let mixed = |sum: u64, value: u64| (sum * 31 + value + 1) % 1_000_003;
-    let (mut time, mut jumps) = (0, 0);
-    for state in 0..graph.states() {
-        let steps = graph.steps(state);
-        let leads = |kind: u8, edge: usize| {
-            steps
-                .iter()
-                .find(|step| step.kind == kind && usize::from(step.edge) == edge)
-                .map_or(graph.states() as u64, |step| u64::from(step.to))
-        };
-        time = mixed(time, leads(TIME, 0));
-        for edge in 0..edges {
-            jumps = mixed(jumps, leads(JUMP, edge));
-        }
-    }
-    let allowed = graph.allowed.iter().filter(|allowed| **allowed).count();
-    format!("{} {allowed} {time} {jumps}\n", graph.states())
 }

@@ -276,38 +276,6 @@ impl Regions {
         near.dedup();
         near
     }
-
-    /// Checksums over the whole table, in the order successors, corners,
-    /// faces, near. Each starts at 0 and takes its values region by region,
-    /// in order: acc = (31 acc + value + 1) mod 1,000,003. The values of a
-    /// region are: its successor's index, or the count if there is none; its
-    /// corners in their order, each as the decimal digits of its clocks; the
-    /// indices of its faces, ascending; the indices of the regions near it.
-    pub fn checksums(&self) -> [u64; 4] {
-        let mut sums = [0u64; 4];
-        let mut take = |which: usize, value: usize| {
-            sums[which] = (sums[which] * 31 + value as u64 + 1) % 1_000_003;
-        };
-        for index in 0..self.count() {
-            take(0, self.successor[index].unwrap_or(self.count()));
-            for corner in &self.corners[index] {
-                let digits = &corner[..self.clocks];
-                take(
-                    1,
-                    digits
-                        .iter()
-                        .fold(0, |number, &digit| number * 10 + digit as usize),
-                );
-            }
-            for &face in &self.faces[index] {
-                take(2, face);
-            }
-            for near in self.near(index) {
-                take(3, near);
-            }
-        }
-        sums
-    }
 }
 
 /// All lists of numbers 0..=most for the clocks, ascending; the entries of

@@ -1,4 +1,5 @@
-//! The cases of evidence, and the stored files of the proved programs.
+//! The cases of operations and of evidence, and the stored files of the proved
+//! programs.
 
 mod common;
 
@@ -13,27 +14,48 @@ use second::program::{bytes_of_text, SCRATCH};
 use second::read_model;
 use std::collections::BTreeSet;
 
+/// A plan, the line of a case of it, and the answer.
+type Case = (Vec<u8>, String, String);
+
+fn all_answered() -> Vec<Case> {
+    let text = cases();
+    let printed = answers(&text, SCRATCH).unwrap();
+    let mut printed = printed.lines();
+    let mut model = Vec::new();
+    let mut all = Vec::new();
+    let mut lines = text.lines();
+    while let Some(line) = lines.next() {
+        let printed = printed.next().unwrap();
+        if line.starts_with('-') {
+            model = bytes_of_text(lines.next().unwrap()).unwrap();
+        } else if !line.starts_with('#') {
+            let answer = printed.strip_prefix(line).unwrap();
+            let answer = answer.strip_prefix(": ").unwrap().to_string();
+            all.push((model.clone(), line.to_string(), answer));
+        }
+    }
+    all
+}
+
+fn is_operation(line: &str) -> bool {
+    line.starts_with(char::is_alphabetic)
+}
+
 /// A piece of evidence with its answer.
 type Piece = (Vec<u8>, String);
 
 /// The plans, each with its evidence.
 fn answered() -> Vec<(Vec<u8>, Vec<Piece>)> {
-    let text = cases();
-    let printed = answers(&text, SCRATCH).unwrap();
-    let mut printed = printed.lines();
     let mut plans: Vec<(Vec<u8>, Vec<Piece>)> = Vec::new();
-    let mut lines = text.lines();
-    while let Some(line) = lines.next() {
-        let printed = printed.next().unwrap();
-        if line.starts_with('-') {
-            let model = bytes_of_text(lines.next().unwrap()).unwrap();
-            plans.push((model, Vec::new()));
-        } else if !line.starts_with('#') {
-            let answer = printed.strip_prefix(line).unwrap();
-            let answer = answer.strip_prefix(": ").unwrap().to_string();
-            let evidence = bytes_of_text(line).unwrap();
-            plans.last_mut().unwrap().1.push((evidence, answer));
+    for (model, line, answer) in all_answered() {
+        if is_operation(&line) {
+            continue;
         }
+        if plans.last().map(|(last, _)| last) != Some(&model) {
+            plans.push((model, Vec::new()));
+        }
+        let evidence = bytes_of_text(&line).unwrap();
+        plans.last_mut().unwrap().1.push((evidence, answer));
     }
     plans
 }
@@ -48,6 +70,28 @@ fn every_answer_comes_up() {
     let mut wanted: BTreeSet<String> = wanted.map(|refusal| refusal.to_string()).collect();
     wanted.extend(["0 1".into(), "0 2".into()]);
     assert_eq!(seen, wanted.iter().map(String::as_str).collect());
+}
+
+/// Each operation gives each answer that it has: both verdicts, refusals up
+/// to 7, 8 if it is lent scratch, 9 if it is lent output.
+#[test]
+fn every_answer_of_an_operation_comes_up() {
+    let all = all_answered();
+    let gives = |word: &str, start: &str| {
+        let mut cases = all.iter().filter(|(_, line, _)| line.starts_with(word));
+        cases.any(|(_, _, answer)| {
+            let rest = answer.strip_prefix(start);
+            rest.is_some_and(|rest| !rest.starts_with(|c: char| c.is_ascii_digit()))
+        })
+    };
+    for (word, most) in [("judge", 8), ("marks", 9), ("write", 9), ("margin", 7)] {
+        for refusal in 0..=most {
+            assert!(gives(word, &refusal.to_string()), "{word} {refusal}");
+        }
+    }
+    for word in ["judge", "write"] {
+        assert!(gives(word, "0 0") && gives(word, "0 1"));
+    }
 }
 
 #[test]
@@ -124,11 +168,14 @@ fn the_brute_force_route_answers_alike() {
 /// The stored input of the proved program is these cases, its stored output
 /// this checker's answers.
 #[test]
-fn evidence_cases_are_those_stored() {
-    let stored = include_str!("../../../crates/evidence_cases/stdin");
+fn cases_are_those_stored() {
+    let stored = include_str!("../../../crates/cases/stdin");
     assert_eq!(stored, cases());
-    let printed = include_str!("../../../crates/evidence_cases/stdout");
+    let printed = include_str!("../../../crates/cases/stdout");
     assert_eq!(printed, answers(stored, SCRATCH).unwrap());
+    // The program reads no more, and no more of a line.
+    assert!(stored.len() <= 65_536);
+    assert!(stored.lines().all(|line| line.split(',').count() <= 1_024));
 }
 
 /// What a reader over a piece of evidence gives, line by line: each number or

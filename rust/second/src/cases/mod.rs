@@ -1,19 +1,42 @@
-//! The cases of the proved program evidence_cases: plans with evidence, in
-//! the lines that it reads, and the lines that it must print.
+//! The cases of the proved program `cases`: plans with operations and
+//! evidence, in the lines that it reads, and the lines that it must print.
 
-mod list;
+mod answers;
+mod evidence;
+mod margin;
+mod operations;
+mod reading;
 pub mod rules;
 
-pub use list::cases;
+pub use answers::answers;
+pub use margin::margin;
 
-use crate::calls::check_evidence;
+use crate::calls::{evidence_of, states_of};
+use crate::graph::Graph;
+use crate::model::{read_model, Model};
 use crate::numbers::shortest;
-use crate::program::bytes_of_text;
+use crate::program::{bytes_of_text, SCRATCH};
+
+/// The most that the program lends: numbers of a scratch slice, bytes of the
+/// output.
+const MOST: usize = 15_816;
+
+/// Longer evidence is left to other tests.
+const EVIDENCE: usize = 2_000;
+
+/// The text of all cases.
+pub fn cases() -> String {
+    let mut text = Text::default();
+    evidence::evidence(&mut text);
+    reading::reading(&mut text);
+    operations::operations(&mut text);
+    text.lines
+}
 
 /// The text of cases. Bytes stand in decimal, set apart by commas. A line
 /// that begins with '-' announces a plan, whose bytes are the next line; the
-/// lines after it are evidence for it, an empty line being evidence without
-/// bytes, or comments that begin with '#'.
+/// lines after it are operations on it, pieces of evidence for it, an empty
+/// line being evidence without bytes, or comments that begin with '#'.
 #[derive(Default)]
 struct Text {
     lines: String,
@@ -26,14 +49,17 @@ impl Text {
     }
 
     fn bytes(&mut self, bytes: &[u8]) {
-        let words: Vec<String> = bytes.iter().map(u8::to_string).collect();
-        self.line(&words.join(","));
+        self.line(&listed(bytes));
     }
 
     fn plan(&mut self, name: &str, model: &[u8], what: &str) {
+        self.named(name, model);
+        self.note(what);
+    }
+
+    fn named(&mut self, name: &str, model: &[u8]) {
         self.line(&format!("- {name}"));
         self.bytes(model);
-        self.note(what);
     }
 
     fn note(&mut self, what: &str) {
@@ -48,31 +74,61 @@ impl Text {
         }
     }
 
+    /// Some operations with what they have in common.
+    fn operations(&mut self, what: &str, operations: &[&str]) {
+        self.note(what);
+        for operation in operations {
+            self.line(operation);
+        }
+    }
+
     /// A sheet of these numbers, after the number 1.
     fn sheet(&mut self, what: &str, numbers: &[u32]) {
         let bytes = [&[1], &shortest(numbers)[..]].concat();
         self.group(what, &[&bytes]);
     }
+
+    /// A plan with every operation, if it is accepted, or else the refusal.
+    fn judged(&mut self, name: &str, model: &[u8]) {
+        self.named(name, model);
+        match read_model(model) {
+            Ok(model) => self.every_operation(model),
+            Err(_) => self.line("judge"),
+        }
+    }
+
+    /// The same for each line of a list, a name with bytes or a comment.
+    fn all_judged(&mut self, plans: &str) {
+        for line in plans.lines() {
+            match line.split_once(':') {
+                Some((name, bytes)) if !line.starts_with('#') => {
+                    self.judged(name, &bytes_of_text(bytes).expect("bytes in decimal"));
+                }
+                _ => self.line(line),
+            }
+        }
+    }
+
+    /// Each operation, with a byte more than it needs.
+    fn every_operation(&mut self, model: Model) {
+        let states = states_of(&model);
+        let scratch = if states <= SCRATCH {
+            String::new()
+        } else {
+            [states; 4].map(|length| format!(",{length}")).concat()
+        };
+        self.line(format!("judge {}", scratch.trim_start_matches(',')).trim_end());
+        self.line(&format!("marks {}{scratch}", MOST.min(states + 1)));
+        let bytes = evidence_of(&Graph::new(model)).1.len();
+        if bytes <= EVIDENCE {
+            self.line(&format!("write {}{scratch}", bytes + 1));
+        }
+        self.line("margin");
+    }
 }
 
-/// The lines that the program prints: all but the plans, evidence with its
-/// answer behind it, which is "0 1" for a passing sheet, "0 2" for a passing
-/// trail, or the refusal.
-pub fn answers(text: &str, scratch: usize) -> Result<String, String> {
-    let mut printed = String::new();
-    let mut model = Vec::new();
-    let mut lines = text.lines();
-    while let Some(line) = lines.next() {
-        printed += line;
-        if line.starts_with('-') {
-            model = bytes_of_text(lines.next().ok_or("a plan is missing")?)?;
-        } else if !line.starts_with('#') {
-            printed += &match check_evidence(&model, &bytes_of_text(line)?, [scratch; 4]) {
-                Ok(kind) => format!(": 0 {kind}"),
-                Err(refusal) => format!(": {refusal}"),
-            };
-        }
-        printed.push('\n');
-    }
-    Ok(printed)
+/// Bytes in decimal, set apart by commas.
+fn listed(bytes: &[u8]) -> String {
+    let words: Vec<String> = bytes.iter().map(u8::to_string).collect();
+    words.join(",")
 }

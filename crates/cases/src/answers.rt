@@ -1,0 +1,88 @@
+// Answers as 01 has them: the number, and behind 0 the values; a verdict is 0 safe, 1 unsafe.
+ghost use Prim.Native.Nat.{_≤_};
+use drift::Evidence;
+use drift::Judgement;
+use drift::Marking;
+use drift::Tolerance;
+use drift::Written;
+use libc::STDOUT_FILENO;
+
+pub enum Answer {
+    Refused(u8),
+    One(usize),
+    Two(usize, usize),
+    Three(usize, usize, usize),
+}
+
+pub fn of_judgement(found: Judgement) -> Answer {
+    match found {
+        Judgement::Safe(states, count) => Answer::Three(0, states, count),
+        Judgement::Unsafe(states, count) => Answer::Three(1, states, count),
+        Judgement::Refused(number) => Answer::Refused(number),
+    }
+}
+
+pub fn of_marking(found: Marking) -> Answer {
+    match found {
+        Marking::Marked(states) => Answer::One(states),
+        Marking::Refused(number) => Answer::Refused(number),
+    }
+}
+
+pub fn of_written(found: Written) -> Answer {
+    match found {
+        Written::Safe(bytes) => Answer::Two(0, bytes),
+        Written::Unsafe(bytes) => Answer::Two(1, bytes),
+        Written::Refused(number) => Answer::Refused(number),
+    }
+}
+
+pub fn of_evidence(found: Evidence) -> Answer {
+    match found {
+        Evidence::Sheet => Answer::One(1),
+        Evidence::Trail => Answer::One(2),
+        Evidence::Refused(number) => Answer::Refused(number),
+    }
+}
+
+pub fn of_tolerance(found: Tolerance) -> Answer {
+    match found {
+        Tolerance::Bound(states, margin) => Answer::Two(states, margin as usize),
+        Tolerance::Refused(number) => Answer::Refused(number),
+    }
+}
+
+pub fn say(text: &[u8]) {
+    io::write_all(STDOUT_FILENO, text);
+}
+
+pub fn put(number: usize) {
+    io::print_decimal(STDOUT_FILENO, number as u64);
+}
+
+// A value behind others.
+pub fn show(number: usize) {
+    say(b" ");
+    put(number);
+}
+
+pub fn show_answer(answer: Answer) {
+    match answer {
+        Answer::Refused(number) => put(number as usize),
+        Answer::One(a) => {
+            put(0);
+            show(a);
+        }
+        Answer::Two(a, b) => {
+            put(0);
+            show(a);
+            show(b);
+        }
+        Answer::Three(a, b, c) => {
+            put(0);
+            show(a);
+            show(b);
+            show(c);
+        }
+    }
+}

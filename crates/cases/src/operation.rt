@@ -1,0 +1,29 @@
+// What a line asks for.
+ghost use Prim.Native.Nat.{_≤_};
+use lines::letter;
+
+pub enum Operation {
+    Judge,
+    Marks,
+    Write,
+    Margin,
+    Check,
+}
+
+// By the first letter, and `marks` or `margin` by the fourth. A piece of evidence has none.
+pub fn operation_of(line: &[u8]) -> Operation {
+    let first = letter(line, 0);
+    if first == b'j' {
+        return Operation::Judge;
+    }
+    if first == b'w' {
+        return Operation::Write;
+    }
+    if first != b'm' {
+        return Operation::Check;
+    }
+    if letter(line, 3) == b'k' {
+        return Operation::Marks;
+    }
+    Operation::Margin
+}

@@ -1,1 +1,0 @@
--- The proofs need no laws of their own.

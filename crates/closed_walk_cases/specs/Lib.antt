@@ -1,1 +1,0 @@
--- The cases cite the definitions of closed_walk.

@@ -1,2 +1,0 @@
--- Tests that compute the shape of small arrays.
-pub mod Tests

@@ -1,0 +1,2 @@
+-- What the searches require of lists, each from the other's words.
+pub mod Rows

@@ -1,0 +1,110 @@
+//! What the proved program prints for the text of cases.
+
+use super::margin::margin;
+use super::{listed, MOST};
+use crate::calls::{check_evidence, judge, marks, states_of, write_evidence, Scratch};
+use crate::model::read_model;
+use crate::program::bytes_of_text;
+use crate::refusal::{Refusal, OUTPUT_TOO_SHORT};
+
+/// What the output holds at first.
+const DIRT: u8 = 7;
+
+/// The lines that the program prints: all but the plans, a case with its
+/// answer behind it. Scratch and output have this length where a line does
+/// not say.
+pub fn answers(text: &str, length: usize) -> Result<String, String> {
+    let mut printed = String::new();
+    let mut model = Vec::new();
+    let mut lines = text.lines();
+    while let Some(line) = lines.next() {
+        printed += line;
+        if line.starts_with('-') {
+            model = bytes_of_text(lines.next().ok_or("a plan is missing")?)?;
+        } else if !line.starts_with('#') {
+            printed += &format!(": {}", answer(&model, line, length)?);
+        }
+        printed.push('\n');
+    }
+    Ok(printed)
+}
+
+/// 01's number and values; for an operation that is lent scratch also how
+/// much of it is zero, and the output.
+fn answer(model: &[u8], line: &str, length: usize) -> Result<String, String> {
+    let (word, rest) = line.split_once(' ').unwrap_or((line, ""));
+    let lent = lengths(rest)?;
+    let lent = |k: usize| lent.get(k).map_or(length, |&length| length.min(MOST));
+    let scratch = |k: usize| [k, k + 1, k + 2, k + 3].map(lent);
+    Ok(match word {
+        "judge" => judge_answer(model, scratch(0)),
+        "marks" => marks_answer(model, scratch(1), lent(0)),
+        "write" => write_answer(model, scratch(1), lent(0)),
+        "margin" => margin_answer(model),
+        _ => {
+            let evidence = bytes_of_text(line)?;
+            let kind = check_evidence(model, &evidence, [length; 4]);
+            told(kind.map(|kind| vec![kind as usize]))
+        }
+    })
+}
+
+/// The lengths on a line of an operation.
+fn lengths(rest: &str) -> Result<Vec<usize>, String> {
+    let words = rest.split(',').filter(|word| !word.is_empty());
+    words
+        .map(|word| word.parse().map_err(|_| format!("not a length: {word}")))
+        .collect()
+}
+
+/// The number, and behind 0 the values.
+fn told(answer: Result<Vec<usize>, Refusal>) -> String {
+    match answer {
+        Ok(values) => {
+            let words = values.iter().map(|value| format!(" {value}"));
+            format!("0{}", words.collect::<String>())
+        }
+        Err(refusal) => refusal.to_string(),
+    }
+}
+
+/// "A call past number 8 leaves their first S at zero and the rest untouched;
+/// earlier, untouched."
+fn zeros<T>(model: &[u8], answer: &Result<T, Refusal>) -> String {
+    let cleared = match answer {
+        Ok(_) | Err(OUTPUT_TOO_SHORT) => read_model(model).map_or(0, |model| states_of(&model)),
+        Err(_) => 0,
+    };
+    format!(", zero{}", format!(" {cleared}").repeat(4))
+}
+
+fn judge_answer(model: &[u8], scratch: Scratch) -> String {
+    let found = judge(model, scratch);
+    let zeros = zeros(model, &found);
+    let values = found.map(|found| vec![found.is_unsafe.into(), found.states, found.count]);
+    told(values) + &zeros
+}
+
+fn marks_answer(model: &[u8], scratch: Scratch, output: usize) -> String {
+    let mut out = vec![DIRT; output];
+    let found = marks(model, scratch, &mut out);
+    let zeros = zeros(model, &found);
+    let bytes: String = out.iter().map(u8::to_string).collect();
+    told(found.map(|states| vec![states])) + &zeros + &shown(bytes)
+}
+
+fn write_answer(model: &[u8], scratch: Scratch, output: usize) -> String {
+    let mut out = vec![DIRT; output];
+    let found = write_evidence(model, scratch, &mut out);
+    let zeros = zeros(model, &found);
+    let values = found.map(|(is_unsafe, bytes)| vec![is_unsafe.into(), bytes]);
+    told(values) + &zeros + &shown(listed(&out))
+}
+
+fn shown(bytes: String) -> String {
+    format!(", out {bytes}").trim_end().to_string()
+}
+
+fn margin_answer(model: &[u8]) -> String {
+    told(read_model(model).map(|model| vec![states_of(&model), margin(&model)]))
+}
