@@ -34,10 +34,6 @@ maxStates = maxLocations * maxRegions
 abbrev pub maxSteps : ℕ
 maxSteps = maxStates + maxEdges * maxRegions
 
--- "reset mask, 0..2^n-1"
-abbrev pub maskCount : ℕ
-maskCount = 2 ^ maxClocks
-
 -- a slot for each corner that a region can have: the thresholds from n + 1 down to 1
 abbrev pub slotCount : ℕ
 slotCount = maxClocks + 1

@@ -1,7 +1,7 @@
 // Each constant is the number that contracts name.
 
 ghost use mathlib.Core.Path.{_≡_};
-ghost use Rattle.limits.specs.Limits.{maxClocks, maxCeiling, maxLocations, maxEdges, maxRegions, maxStates, maxSteps, maskCount, slotCount, pointBase, pointCount, wholeBase, rankBase, rankCodeCount, codeCount, maxFaces, levelFlag, smallRegions, smallStates, smallSteps, digitBase, twoDigits, threeDigits};
+ghost use Rattle.limits.specs.Limits.{maxClocks, maxCeiling, maxLocations, maxEdges, maxRegions, maxStates, maxSteps, slotCount, pointBase, pointCount, wholeBase, rankBase, rankCodeCount, codeCount, maxFaces, levelFlag, smallRegions, smallStates, smallSteps, digitBase, twoDigits, threeDigits};
 
 pub fn clocks() -> usize
     ensures { λ r. ⌜ r ≡ maxClocks ⌝ }
@@ -43,12 +43,6 @@ pub fn steps() -> usize
     ensures { λ r. ⌜ r ≡ maxSteps ⌝ }
 {
     super::MAX_STEPS
-}
-
-pub fn masks() -> usize
-    ensures { λ r. ⌜ r ≡ maskCount ⌝ }
-{
-    super::MASKS
 }
 
 pub fn slots() -> usize

@@ -31,9 +31,6 @@ pub const MAX_STATES: usize = MAX_LOCATIONS * MAX_REGIONS;
 // A time step from each state, and along each edge a jump from each region.
 pub const MAX_STEPS: usize = MAX_STATES + MAX_EDGES * MAX_REGIONS;
 
-// 01: "reset mask, 0..2^n-1".
-pub const MASKS: usize = 1 << MAX_CLOCKS;
-
 // A slot for each corner that a region can have: the thresholds from n + 1 down to 1.
 pub const SLOTS: usize = MAX_CLOCKS + 1;
 

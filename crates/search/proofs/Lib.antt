@@ -4,8 +4,6 @@
 pub mod Count
 -- Rows of successors.
 pub mod Rows
--- Whether small lists are rows, by a test.
-pub mod RowsTest
 -- What is taken in, part after part.
 pub mod Queue
 -- The least state of a set.

@@ -7,14 +7,14 @@ use native.Mathlib.Omega.{arith}
 use lib.ListN.{length, take}
 use lib.Seq.{length-take-le}
 use Rattle.limits.specs.Limits.{maxStates}
-use Rattle.component.specs.Marks.{Shape}
-use Rattle.search.specs.Rows.{Rows}
+use Rattle.component.specs.Marks.{GraphLists}
+use Rattle.theory.specs.Adjacency.{Rows}
 
-rows-of : {first targets : List ℕ} {n : ℕ} → Shape first targets n → Rows first targets n
+rows-of : {first targets : List ℕ} {n : ℕ} → GraphLists first targets n → Rows first targets n
 rows-of s = record { long = omega (arith, s .long); ascends = λ p l. rw (add-one p) (s .ascends p l); ends = s .ends; below = s .below }
 
 -- with the first n numbers of a list as each lent slice
-pub walks-in : {first targets : List ℕ} {n q : ℕ} (l : List ℕ) → Shape first targets n → q < n → n ≤ length l
+pub walks-in : {first targets : List ℕ} {n q : ℕ} (l : List ℕ) → GraphLists first targets n → q < n → n ≤ length l
     → (q < length (take n l)) × (length (take n l) ≤ maxStates) × Rows first targets (length (take n l))
     × (length (take n l) ≡ length (take n l)) × (length (take n l) ≡ length (take n l))
 walks-in {n} l s b h = rw (length-take-le n l h) (b, s .small, rows-of s, refl, refl)

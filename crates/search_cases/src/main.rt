@@ -7,7 +7,7 @@ mod shape;
 ghost use mathlib.Core.Path.{_≡_};
 ghost use Prim.Native.Nat.{_+_, _≤_, _<_, min};
 ghost use lib.ListN.{length};
-ghost use Rattle.component.specs.Marks.{Shape};
+ghost use Rattle.component.specs.Marks.{GraphLists};
 use libc::STDIN_FILENO;
 use libc::STDOUT_FILENO;
 use limits::Word;
@@ -49,7 +49,7 @@ fn show_words(numbers: &[Word; NODES], n: usize) {
 // ---- The searches.
 
 fn marks(first: &[u32], targets: &[Word], n: usize, dirt: Word)
-    requires { ⌜ Shape (now first) (now targets) n × (n ≤ 8) ⌝ }
+    requires { ⌜ GraphLists (now first) (now targets) n × (n ≤ 8) ⌝ }
 {
     let mut mark = [dirt; NODES];
     let mut stack = [dirt; NODES];
@@ -68,7 +68,7 @@ fn marks(first: &[u32], targets: &[Word], n: usize, dirt: Word)
 }
 
 fn walk(first: &[u32], targets: &[Word], n: usize, q: usize, dirt: Word)
-    requires { ⌜ Shape (now first) (now targets) n × (n ≤ 8) × (q < n) ⌝ }
+    requires { ⌜ GraphLists (now first) (now targets) n × (n ≤ 8) × (q < n) ⌝ }
 {
     let mut level = [dirt; NODES];
     let mut queue = [dirt; NODES];
@@ -87,7 +87,7 @@ fn walk(first: &[u32], targets: &[Word], n: usize, q: usize, dirt: Word)
 
 // From each node.
 fn walks(first: &[u32], targets: &[Word], n: usize, dirt: Word)
-    requires { ⌜ Shape (now first) (now targets) n × (n ≤ 8) ⌝ }
+    requires { ⌜ GraphLists (now first) (now targets) n × (n ≤ 8) ⌝ }
 {
     let mut q = 0;
     while q < n {

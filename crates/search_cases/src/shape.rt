@@ -3,7 +3,7 @@ ghost use mathlib.Core.Path.{_≡_};
 ghost use mathlib.Core.Bool.{true};
 ghost use Prim.Native.Nat.{ℕ, _+_, _≤_, _<_};
 ghost use lib.ListN.{getD, length};
-ghost use Rattle.component.specs.Marks.{Shape};
+ghost use Rattle.component.specs.Marks.{GraphLists};
 use limits::MAX_STATES;
 use limits::MAX_STEPS;
 use limits::Word;
@@ -37,7 +37,7 @@ fn all_below(targets: &[Word], end: usize, n: usize) -> bool
 }
 
 pub fn shaped(first: &[u32], targets: &[Word], n: usize) -> bool
-    ensures { λ r. ⌜ (r ≡ true → Shape (now (first .entry)) (now (targets .entry)) n) ⌝ }
+    ensures { λ r. ⌜ (r ≡ true → GraphLists (now (first .entry)) (now (targets .entry)) n) ⌝ }
 {
     if MAX_STATES < n {
         return false;
