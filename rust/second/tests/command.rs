@@ -3,12 +3,8 @@
 mod common;
 
 use common::*;
-use second::limits::{MAX_CEILING, MAX_CLOCKS};
 use std::io::Write;
 use std::process::{Command, Output, Stdio};
-
-/// There is a table for each number of clocks and each ceiling.
-const TABLES: usize = MAX_CLOCKS * MAX_CEILING as usize;
 
 fn second(arguments: &[&str], input: &[u8]) -> Output {
     let mut child = Command::new(env!("CARGO_BIN_EXE_second"))
