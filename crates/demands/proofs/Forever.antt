@@ -1,22 +1,29 @@
 -- Beyond 01: the verdict is right for ever, in both directions. Safe means that some drift above 0 is harmless however long a run is; unsafe means that
--- every drift above 0 does harm in the end.
+-- every drift above 0 does harm in the end. How slight a drift is harmless, and how soon one does harm, is told by the drawing and by the evidence.
 --
 -- As in Demand3, `bytes` spell an accepted model and each scratch slice is long enough.
-use mathlib.Core.Path.{_≡_, refl, sym, ap, subst, _∙_}
+use mathlib.Core.Path.{_≡_, refl, sym, ap, ap₂, subst, _∙_}
 use mathlib.Core.Bool.{true, false, true≢false}
 use mathlib.Core.Logic.{_↔_}
 use mathlib.Core.List.{List, [], _∷_}
 use Prim.Native.Nat.{ℕ, _+_, _*_, _≤_, _<_}
 use native.Mathlib.Decide.{decLt}
 use native.Mathlib.Omega.{arith}
-use lib.ListN.{length, getD}
+use lib.ListN.{length, getD, drop}
 use Rattle.theory.specs.Below.{bit}
 use Rattle.theory.specs.Marked.{unsafe}
 use Rattle.theory.specs.Automaton.{Automaton, Edge, Run}
+use Rattle.theory.specs.Sheet.{Sheet, sheetTest}
 use Rattle.theory.proofs.Sheet.{is-sheet}
 use Rattle.theory.proofs.Replay.{passes-law}
 use Rattle.theory.proofs.Rounding.{steady-law}
 use Rattle.number.specs.Answer.{Answer, answer}
+use Rattle.number.specs.declared.Number.{Number}
+use Rattle.number.specs.declared.Number.the-variants.{Value, Refused}
+use Rattle.number.specs.Sequence.{SpelledBy}
+use Rattle.evidence_number.specs.Evidence.{SpellsEvidence}
+use Rattle.evidence_number.proofs.Reading.{spelled-some, spelled-first}
+use Rattle.evidence.specs.Evidence.{TrailPasses}
 use Rattle.model.specs.declared.Model.{Model}
 use Rattle.model.specs.Model.{Lawful}
 use Rattle.model.specs.Cycle.{LeavesUnreset}
@@ -26,13 +33,15 @@ use Rattle.graph.specs.Plan.{automatonOf, systemOfModel, labelledOfModel}
 use Rattle.graph.proofs.Models.{system-laws}
 use Rattle.robust.specs.Robust.{RobustlySafe, Fragile}
 use Rattle.robust.specs.Margin.{margin, maxMargin}
-use Rattle.robust_models.proofs.Models.{safe-forever, sheet-forever, trail-fragile, verdict-right, margin-uniform}
+use Rattle.robust.specs.Fringe.{sheetMargin, heightMargin}
+use Rattle.robust.specs.Delay.{FragileWithin, trailBase, trailRate}
+use Rattle.robust_models.proofs.Models.{safe-forever, sheet-forever, sheet-margin, sheet-height-margin, margin-height, margin-uniform, trail-fragile, trail-within, verdict-right}
 use Rattle.call.specs.Call.{modelOf, statesOf, refusal}
 use Rattle.op_judge.specs.Judge.{judged}
 use Rattle.op_check.specs.Check.{checkAnswer}
 use Rattle.op_margin.specs.Margin.{marginAnswer}
 use Rattle.call.proofs.Calls.{taken-in, accepted}
-use Rattle.demands.specs.Told.{verdictIn, kindAnswer, Perfect}
+use Rattle.demands.specs.Told.{verdictIn, kindAnswer, Perfect, Slip}
 use Rattle.demands.proofs.Demand2.{answered, one-bit, zero-bit, verdict-is}
 use Rattle.demands.proofs.Demand3.{sheet-exactly, trail-exactly}
 
@@ -41,6 +50,29 @@ margin-done : (bytes : List ℕ) → readModel bytes .refusal ≡ 0
     → marginAnswer bytes ≡ record { number = 0; values = statesOf bytes ∷ margin (automatonOf (modelOf bytes)) (modelOf bytes .locations) ∷ [] }
 unfolding marginAnswer answer
 margin-done bytes e = simp e refl
+
+-- bytes spell one list of numbers
+abbrev valueIn : Number → ℕ
+valueIn (Value v to) = v
+valueIn (Refused r) = 0
+
+abbrev endIn : Number → ℕ
+endIn (Value v to) = to
+endIn (Refused r) = 0
+
+spelled-once : (vs ws : List ℕ) {bs : List ℕ} → SpellsEvidence bs vs → SpellsEvidence bs ws → vs ≡ ws
+spelled-once [] [] s t = refl
+spelled-once [] (w ∷ ws) SpelledBy.none t = absurd (omega (arith, spelled-some t))
+spelled-once (v ∷ vs) [] s SpelledBy.none = absurd (omega (arith, spelled-some s))
+spelled-once (v ∷ vs) (w ∷ ws) {bs} s t =
+    let (to, e, s′) = spelled-first s in
+    let (end, f, t′) = spelled-first t in
+    let q = sym e ∙ f in
+    ap₂ _∷_ (ap valueIn q) (spelled-once vs ws s′ (subst (λ (i : ℕ). SpellsEvidence (drop i bs) ws) (sym (ap endIn q)) t′))
+
+abbrev others : List ℕ → List ℕ
+others [] = []
+others (v ∷ vs) = vs
 
 module _ (bytes lent : List ℕ) (taken : refusal bytes lent ≡ 0) where
   abbrev m : Model
@@ -81,6 +113,31 @@ module _ (bytes lent : List ℕ) (taken : refusal bytes lent ≡ 0) where
       let (vs, s, w) = trail-exactly bytes lent taken shown .0 e in
       trail-fragile m ok resets vs (passes-law (labelledOfModel m) vs .1 w)
 
+  -- By the evidence itself. A sheet that passes, whose numbers after the first are l: no widened run of any number of jumps with A e < D enters a forbidden
+  -- location, where A is computed from l by the walks through its fringe, or by its greatest height.
+  module _ (shown l : List ℕ) (e : checkAnswer bytes shown lent ≡ kindAnswer 1) (s : SpellsEvidence shown (1 ∷ l)) where
+    passing : sheetTest (systemOfModel m) l ≡ true
+    passing =
+        let (l′, s′, K) = sheet-exactly bytes lent taken shown .0 e in
+        is-sheet (systemOfModel m) (system-laws m ok) l (subst (Sheet (systemOfModel m)) (ap others (spelled-once (1 ∷ l′) (1 ∷ l) s′ s)) K)
+
+    pub sheet-safe-by-margin : RobustlySafe (automatonOf m) (sheetMargin (automatonOf m) (m .locations) l)
+    sheet-safe-by-margin = sheet-margin m ok l passing
+
+    pub sheet-safe-by-height : RobustlySafe (automatonOf m) (heightMargin (automatonOf m) (m .locations) l)
+    sheet-safe-by-height = sheet-height-margin m ok l passing
+
+    -- the first is never larger
+    pub margin-under-height : sheetMargin (automatonOf m) (m .locations) l ≤ heightMargin (automatonOf m) (m .locations) l
+    margin-under-height = margin-height m ok l passing
+
+  -- A trail that passes: with each drift e/D, where D is at most q e, some widened run of at most base + rate q jumps enters a forbidden location.
+  pub trail-harms-within : (shown : List ℕ) → checkAnswer bytes shown lent ≡ kindAnswer 2
+      → (p : TrailPasses m shown) × FragileWithin (automatonOf m) (λ q. trailBase (automatonOf m) (p .0) + trailRate (automatonOf m) (p .0) * q)
+  trail-harms-within shown e =
+      let (vs, s, w) = trail-exactly bytes lent taken shown .0 e in
+      ((vs, s, w), trail-within m ok resets vs (passes-law (labelledOfModel m) vs .1 w))
+
   -- a number that serves every model
   pub margin-most : margin (automatonOf m) (m .locations) ≤ maxMargin
   margin-most = margin-uniform m ok
@@ -120,3 +177,28 @@ module _ (bytes : List ℕ) where
       by : Dec ((length gs + 1) * e < D) → D ≤ (length gs + 1) * e
       by (yes h) = absurd (true≢false (sym f ∙ drift-only none (length gs) e D N h pos gs l v t (omega arith) r))
       by (no h) = omega arith
+
+  -- And where drift does harm within so many jumps, it does so neither before nor after: some run slips in that window.
+  pub slip-within : {most : ℕ → ℕ} → Perfect plan → FragileWithin plan most → (e D q : ℕ) → 0 < D → D ≤ q * e → Slip plan e D (most q)
+  slip-within none F e D q pos less =
+      let (N, some, gs, l, v, t, r, x, few) = F .enters-some e D q pos less in
+      record {
+        parts = N;
+        some = some;
+        edges = gs;
+        place = l;
+        values = v;
+        time = t;
+        run = r;
+        harm = x;
+        not-before = slip-takes none e D N some gs l v t r x;
+        within = few;
+      }
+
+  -- so it is where a trail passes
+  pub slip-window : (lent : List ℕ) → refusal bytes lent ≡ 0 → Perfect plan → (shown : List ℕ) → checkAnswer bytes shown lent ≡ kindAnswer 2
+      → (p : TrailPasses (modelOf bytes) shown)
+      × ((e D q : ℕ) → 0 < D → D ≤ q * e → Slip plan e D (trailBase plan (p .0) + trailRate plan (p .0) * q))
+  slip-window lent taken none shown e =
+      let (p, F) = trail-harms-within bytes lent taken shown e in
+      (p, slip-within none F)

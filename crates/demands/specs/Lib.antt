@@ -2,5 +2,5 @@
 pub mod Bench
 -- A plan for which the bound on drift is tight.
 pub mod Tight
--- What the theorems say of answers, marks and plans.
+-- What the theorems say of answers, marks, plans and slips.
 pub mod Told

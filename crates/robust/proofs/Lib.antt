@@ -2,6 +2,8 @@
 
 -- Waits, ceilings and top ranks.
 pub mod Clocks
+-- No jump leads where time does.
+pub mod TimeOrJump
 -- Exact moves in half units go through regions by time and jump steps.
 pub mod Half
 -- Whole points and the region half way between them.
@@ -15,7 +17,9 @@ pub mod Window
 pub mod Entries
 -- The points half way between two roundings of a run.
 pub mod Middle
--- Safe for ever.
+-- What holds of the rounded points of every run, by induction over its jumps.
+pub mod Induction
+-- Safe for ever, by the entries of the drawing.
 pub mod Forever
 -- Time and jump steps lift to exact moves between corners.
 pub mod Lift
@@ -23,8 +27,12 @@ pub mod Lift
 pub mod Blend
 -- Closed walks: their corners, and that they reset each clock.
 pub mod Loop
+-- Safe for ever, by ranks of the states with a corner that is in and a corner that is out.
+pub mod Ranked
 -- With any drift at all each corner of each marked state is reached.
 pub mod Drift
+-- How soon drift does harm, by a trail.
+pub mod Delay
 -- The verdict is right in both directions.
 pub mod Verdict
 -- One margin that serves every model of 01.
@@ -38,3 +46,7 @@ pub mod Unreset
 pub mod Untouched
 -- Joint resets need no touch.
 pub mod Joint
+-- The fringe of a sheet and the walks through it.
+pub mod Fringe
+-- Safe for ever, by a sheet.
+pub mod SheetMargin

@@ -9,3 +9,7 @@ pub mod Margin
 pub mod Untouched
 -- The loop plan of 01's bench, and a plan that is refused.
 pub mod Plans
+-- The margin of a plan by a sheet: the walks through its fringe, or its greatest height.
+pub mod Fringe
+-- How soon drift does harm, by a trail.
+pub mod Delay

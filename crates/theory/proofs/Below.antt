@@ -1,8 +1,8 @@
 -- Laws of tests below a bound. The last part reads a test made of tests: for a nest of `&&`, `||`, `imp`, `any` and `all`, one term.
-use mathlib.Core.Path.{_≡_, refl, sym, ap, subst, _∙_}
+use mathlib.Core.Path.{_≡_, refl, sym, ap, ap₂, subst, _∙_}
 use mathlib.Core.Bool.{Bool, true, false, not, cond, _&&_, _||_, true≢false, false≢true, or-false, or-assoc, and-true, and-assoc}
 use mathlib.Core.Logic.{_↔_, _⊎_, inl, inr, ⊎-elim}
-use Prim.Native.Nat.{ℕ, zero, suc, _+_, _≤_, _<_, zero-le, suc-le-suc}
+use Prim.Native.Nat.{ℕ, zero, suc, _+_, _≤_, _<_, max, zero-le, suc-le-suc}
 use native.Mathlib.Omega.{arith}
 use native.Mathlib.Nat.{le-antisymm}
 use native.Mathlib.Decide.{decLe, decLt}
@@ -168,6 +168,11 @@ unfolding top
 top-ge zero f i h = absurd (omega arith)
 top-ge (suc n) f zero h = omega arith
 top-ge (suc n) f (suc i) h = omega (arith, top-ge n (λ i. f (suc i)) i (omega arith))
+
+pub top-ext : (n : ℕ) (f g : ℕ → ℕ) → ((i : ℕ) → i < n → f i ≡ g i) → top n f ≡ top n g
+unfolding top
+top-ext zero f g h = refl
+top-ext (suc n) f g h = ap₂ max (h 0 (omega arith)) (top-ext n (λ i. f (suc i)) (λ i. g (suc i)) (λ i l. h (suc i) (omega arith)))
 
 -- the largest value is that of some place, or 0
 pub top-at : (n : ℕ) (f : ℕ → ℕ) → (top n f ≡ zero) ⊎ ((i : ℕ) × (i < n) × (top n f ≡ f i))

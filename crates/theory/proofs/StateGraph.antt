@@ -181,12 +181,12 @@ module _ (m : Automaton) where
           (is-time p t a ∙ sym n, rw n (number-below locations (locationOf m p) l (a .region))),
     )
 
-    edge-drawn : (l : List Edge) (e : ℕ) → e < length l → List·Memᴰ (getD l e noEdge) l
+    pub edge-drawn : (l : List Edge) (e : ℕ) → e < length l → List·Memᴰ (getD l e noEdge) l
     edge-drawn [] e h = absurd (omega arith)
     edge-drawn (g ∷ l) zero h = List·Memᴰ·head refl
     edge-drawn (g ∷ l) (suc e) h = List·Memᴰ·tail (edge-drawn l e (omega arith))
 
-    drawn-edge : (g : Edge) (l : List Edge) → List·Memᴰ g l → (e : ℕ) × (e < length l) × (getD l e noEdge ≡ g)
+    pub drawn-edge : (g : Edge) (l : List Edge) → List·Memᴰ g l → (e : ℕ) × (e < length l) × (getD l e noEdge ≡ g)
     drawn-edge g [] d = absurd (List·Memᴰ·not-nil d)
     drawn-edge g (f ∷ l) d = by (drawn-edge g l) (List·Memᴰ·cases-cons d)
       where

@@ -136,27 +136,32 @@ module _ (m : Automaton) (locations : ℕ) (W : Within m locations) (kept : Capp
 
   -- ---- widened runs
 
-  -- A set of numbers that has the start, is closed under time and jump, and has no state of a forbidden location covers slight drift.
-  pub covers : (isIn : ℕ → Bool) → isIn (systemOf m locations .start) ≡ true
-      → ((p q : ℕ) → isIn p ≡ true → systemOf m locations .flow p q ≡ true → isIn q ≡ true)
-      → ((p : ℕ) → p < stateCount m locations → isIn p ≡ true → systemOf m locations .forbidden p ≡ false)
-      → Steady m
-  unfolding systemOf
-  covers isIn s f g = steady kept closed clean
-    where
-      Inside : ℕ → Region → Type 0
-      Inside l xs = (l < locations) × Allowed m l xs × (isIn (numberOf m l xs) ≡ true)
+  -- the states whose numbers are in a set
+  abbrev pub Inside : (ℕ → Bool) → ℕ → Region → Type 0
+  Inside isIn l xs = (l < locations) × Allowed m l xs × (isIn (numberOf m l xs) ≡ true)
 
-      closed : FlowClosed m Inside
-      closed = record {
+  pub inside-closed : (isIn : ℕ → Bool) → isIn (systemOf m locations .start) ≡ true
+      → ((p q : ℕ) → isIn p ≡ true → systemOf m locations .flow p q ≡ true → isIn q ≡ true) → FlowClosed m (Inside isIn)
+  unfolding systemOf
+  inside-closed isIn s f =
+      record {
         start = (W .start, start-allowed kept (m .start), s);
         flow = λ l xs k ys (b, a, i) t.
             (flow-target m locations W b t, flow-allowed m locations W t .1, f (numberOf m l xs) (numberOf m k ys) i (is-flow m locations W b t));
       }
 
-      clean : (l : ℕ) (xs : Region) → Inside l xs → m .forbidden l ≡ false
-      clean l xs (b, a, i) =
-          subst (λ k. m .forbidden k ≡ false) (location-of-number m l (a .region)) (g (numberOf m l xs) (number-below m locations l b (a .region)) i)
+  pub inside-clean : (isIn : ℕ → Bool) → ((p : ℕ) → p < stateCount m locations → isIn p ≡ true → systemOf m locations .forbidden p ≡ false)
+      → (l : ℕ) (xs : Region) → Inside isIn l xs → m .forbidden l ≡ false
+  unfolding systemOf
+  inside-clean isIn g l xs (b, a, i) =
+      subst (λ k. m .forbidden k ≡ false) (location-of-number m l (a .region)) (g (numberOf m l xs) (number-below m locations l b (a .region)) i)
+
+  -- A set of numbers that has the start, is closed under time and jump, and has no state of a forbidden location covers slight drift.
+  pub covers : (isIn : ℕ → Bool) → isIn (systemOf m locations .start) ≡ true
+      → ((p q : ℕ) → isIn p ≡ true → systemOf m locations .flow p q ≡ true → isIn q ≡ true)
+      → ((p : ℕ) → p < stateCount m locations → isIn p ≡ true → systemOf m locations .forbidden p ≡ false)
+      → Steady m
+  covers isIn s f g = steady kept (inside-closed isIn s f) (inside-clean isIn g)
 
   -- So a passing sheet does.
   pub sheet-covers : (l : List ℕ) → sheetTest (systemOf m locations) l ≡ true → Steady m

@@ -8,7 +8,7 @@ use native.Mathlib.Nat.{add-zero}
 use native.Mathlib.Omega.{arith}
 use lib.ListN.{replicate}
 use Rattle.theory.specs.Pointwise.{Each}
-use Rattle.theory.specs.Automaton.{Automaton, Edge, Capped, Upto, AtLeast, elapse, resetValues, Run, Exact, Steady}
+use Rattle.theory.specs.Automaton.{Automaton, Edge, Capped, Upto, AtLeast, elapse, resetValues, Opens, Run, Exact, Steady}
 use Rattle.theory.specs.Region.{Region, clock, Fits, Attains, hasRank, topRank, riseRanks, carry, successor, resetClocks, renumber, closeUp}
 use Rattle.theory.specs.RegionGraph.{Allowed, Flow, FlowClosed, point}
 use Rattle.theory.proofs.Pointwise.{each-chain}
@@ -127,21 +127,24 @@ module _ {m : Automaton} {P : ℕ → Region → Type 0} (kept : Capped m) (c : 
       let half : P l (between v) = rw successor-point at (c .flow l (point v) l _ p (Flow.time a₀ (rw successor-point a₁))) in
       rw successor-between at (c .flow l (between v) l _ half (Flow.time a₁ (rw successor-between a₂)))
 
-  units : (l d : ℕ) (v : List ℕ) → P l (point v) → Upto 1 0 1 (elapse d v) (m .invariant l) → P l (point (elapse d v))
-  units l zero v p h = rw elapse-zero p
-  units l (suc d) v p h =
+  pub point-waits : (l d : ℕ) (v : List ℕ) → P l (point v) → Upto 1 0 1 (elapse d v) (m .invariant l) → P l (point (elapse d v))
+  point-waits l zero v p h = rw elapse-zero p
+  point-waits l (suc d) v p h =
       let h₁ : Upto 1 0 1 (elapse 1 (elapse d v)) (m .invariant l) = rw elapse-suc at h in
       let h₀ = upto-earlier 1 (elapse d v) h₁ in
-      rw elapse-suc (unit l (elapse d v) (units l d v p h₀) h₀ h₁)
+      rw elapse-suc (unit l (elapse d v) (point-waits l d v p h₀) h₀ h₁)
+
+  pub point-jumps : (l : ℕ) (v : List ℕ) (g : Edge) → P l (point v) → Opens m 1 0 1 g l v → P (g .target) (point (resetValues (g .reset) v))
+  point-jumps l v g p o =
+      rw jump-point at (c .flow l (point v) (g .target) _ p
+      (Flow.jump g record { drawn = o .drawn; here = o .here; low = attains-point (o .low); high = fits-point (o .high) }
+      (allowed-point kept l (o .stays))
+      (rw jump-point (allowed-point kept (g .target) (o .enters)))))
 
   -- The set holds the whole point of each entry of an exact run.
   pub exact-stays : {gs : List Edge} {l t : ℕ} {v : List ℕ} → Exact m gs l v t → P l (point v)
   exact-stays (Run.begin h) = c .start
-  exact-stays (Run.step {l = l} {v = v} r d g o) =
-      rw jump-point at (c .flow l (point (elapse d v)) (g .target) _ (units l d v (exact-stays r) (o .stays))
-      (Flow.jump g record { drawn = o .drawn; here = o .here; low = attains-point (o .low); high = fits-point (o .high) }
-      (allowed-point kept l (o .stays))
-      (rw jump-point (allowed-point kept (g .target) (o .enters)))))
+  exact-stays (Run.step {l = l} {v = v} r d g o) = point-jumps l (elapse d v) g (point-waits l d v (exact-stays r) (o .stays)) o
 
   -- Where such a set has no state of a forbidden location, no run of at most K jumps with (K + 1) * e < D enters one.
   pub steady : ((l : ℕ) (xs : Region) → P l xs → m .forbidden l ≡ false) → Steady m
