@@ -12,7 +12,10 @@
  *
  * A call allocates nothing, keeps nothing and may run beside others on other
  * memory. Its tables live on the stack, which matters to threads with small
- * stacks: docs/ARCHITECTURE.md has their size. */
+ * stacks: docs/ARCHITECTURE.md has their size.
+ *
+ * The library is built for the machine that builds it, x86-64 with the calling
+ * convention of System V (Linux); nothing in this header is bound to that. */
 #ifndef DRIFT_H
 #define DRIFT_H
 
@@ -123,11 +126,42 @@ uint64_t drift_check_evidence(
 uint64_t drift_next_number(const uint8_t *bytes, size_t bytes_length, size_t at);
 
 /* Beyond 01: how slight a drift is harmless for ever if the plan is safe.
- * Every drift below 1/A of a unit is, A being the margin. Refusals 1 to 7.
+ * Every drift below 1/A of a unit is, A being the margin. This one is had from
+ * the drawing alone, without scratch; drift_sheet_margin is far sharper.
+ * Refusals 1 to 7.
  *
  * The answer: number + 2^16 * S + 2^40 * A. See drift_states,
  * drift_margin_of. */
 uint64_t drift_margin(const uint8_t *model, size_t model_length);
+
+/* Beyond 01: the same by our sheet. Refusals 1 to 8.
+ *
+ * The answer: number + 2^8 * verdict (0 safe, 1 unsafe) + 2^16 * S + 2^40 * A,
+ * A being 0 where unsafe. See drift_is_unsafe, drift_states,
+ * drift_margin_of. */
+uint64_t drift_sheet_margin(
+    const uint8_t *model, size_t model_length,
+    drift_word *s1, size_t s1_length,
+    drift_word *s2, size_t s2_length,
+    drift_word *s3, size_t s3_length,
+    drift_word *s4, size_t s4_length);
+
+/* Beyond 01: within how many jumps drift does harm if the plan is unsafe, into
+ * the output's first two numbers: base and rate. For drift e/D and every q
+ * with D <= q * e some widened run of at most base + rate * q jumps enters a
+ * forbidden location. The rest of the output is untouched, and all of it where
+ * the plan is safe. Refusals 1 to 8; 9, last, where the plan is unsafe and the
+ * output has room for fewer than two numbers.
+ *
+ * The answer: number + 2^8 * verdict (0 safe, 1 unsafe) + 2^16 * S. See
+ * drift_is_unsafe, drift_states. */
+uint64_t drift_harm(
+    const uint8_t *model, size_t model_length,
+    drift_word *s1, size_t s1_length,
+    drift_word *s2, size_t s2_length,
+    drift_word *s3, size_t s3_length,
+    drift_word *s4, size_t s4_length,
+    uint64_t *out, size_t out_length);
 
 /* The number that every call returns: 0, or the refusal, with which all other
  * fields are 0. */
@@ -136,19 +170,20 @@ static inline unsigned drift_number_of(uint64_t answer)
     return (unsigned)(answer & 0xff);
 }
 
-/* Of drift_judge and drift_write_evidence: 1 if unsafe, 0 if safe. */
+/* Of drift_judge, drift_write_evidence, drift_sheet_margin and drift_harm: 1
+ * if unsafe, 0 if safe. */
 static inline int drift_is_unsafe(uint64_t answer)
 {
     return (answer >> 8 & 0xff) == 1;
 }
 
-/* Of drift_margin: A. */
+/* Of drift_margin and drift_sheet_margin: A. */
 static inline uint32_t drift_margin_of(uint64_t answer)
 {
     return (uint32_t)(answer >> 40);
 }
 
-/* Of drift_judge, drift_marks and drift_margin: S. */
+/* Of all that tell it (drift_judge, drift_marks, the margins, drift_harm): S. */
 static inline size_t drift_states(uint64_t answer)
 {
     return (size_t)(answer >> 16 & 0xffffff);

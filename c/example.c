@@ -1,7 +1,7 @@
-/* Judges the loop plan of document 01, writes its evidence, checks that, and
- * reads it number by number.
+/* Judges the loop plan of document 01, writes its evidence, checks that, reads
+ * it number by number, and asks how soon drift does harm.
  *
- *     cc -I c -o example c/example.c libdrift_c.a
+ *     cc -I c -o target/example c/example.c target/staticlib/libdrift_c.a
  */
 #include "drift.h"
 
@@ -74,6 +74,17 @@ static void read_numbers(size_t length)
     printf("\n");
 }
 
+/* The jumps before harm, for every q with D <= q * e at drift e/D. */
+static void harm(void)
+{
+    uint64_t out[2];
+    uint64_t answer = accepted(drift_harm(
+        plan, sizeof plan, s1, STATES, s2, STATES, s3, STATES, s4, STATES, out, 2));
+    if (drift_is_unsafe(answer))
+        printf("harm within %llu + %lluq jumps\n",
+            (unsigned long long)out[0], (unsigned long long)out[1]);
+}
+
 int main(void)
 {
     size_t length;
@@ -81,5 +92,6 @@ int main(void)
     length = write_evidence();
     check(length);
     read_numbers(length);
+    harm();
     return EXIT_SUCCESS;
 }

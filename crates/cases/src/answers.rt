@@ -1,8 +1,10 @@
 // Answers as 01 has them: the number, and behind 0 the values; a verdict is 0 safe, 1 unsafe.
 ghost use Prim.Native.Nat.{_≤_};
+use drift::Bound;
 use drift::Evidence;
 use drift::Judgement;
 use drift::Marking;
+use drift::Onset;
 use drift::Tolerance;
 use drift::Written;
 use libc::STDOUT_FILENO;
@@ -12,6 +14,7 @@ pub enum Answer {
     One(usize),
     Two(usize, usize),
     Three(usize, usize, usize),
+    Four(usize, usize, u64, u64),
 }
 
 pub fn of_judgement(found: Judgement) -> Answer {
@@ -52,6 +55,22 @@ pub fn of_tolerance(found: Tolerance) -> Answer {
     }
 }
 
+pub fn of_bound(found: Bound) -> Answer {
+    match found {
+        Bound::Safe(states, margin) => Answer::Three(0, states, margin),
+        Bound::Unsafe(states) => Answer::Three(1, states, 0),
+        Bound::Refused(number) => Answer::Refused(number),
+    }
+}
+
+pub fn of_onset(found: Onset) -> Answer {
+    match found {
+        Onset::Safe(states) => Answer::Four(0, states, 0, 0),
+        Onset::Within(states, base, rate) => Answer::Four(1, states, base, rate),
+        Onset::Refused(number) => Answer::Refused(number),
+    }
+}
+
 pub fn say(text: &[u8]) {
     io::write_all(STDOUT_FILENO, text);
 }
@@ -64,6 +83,11 @@ pub fn put(number: usize) {
 pub fn show(number: usize) {
     say(b" ");
     put(number);
+}
+
+fn show_long(number: u64) {
+    say(b" ");
+    io::print_decimal(STDOUT_FILENO, number);
 }
 
 pub fn show_answer(answer: Answer) {
@@ -83,6 +107,13 @@ pub fn show_answer(answer: Answer) {
             show(a);
             show(b);
             show(c);
+        }
+        Answer::Four(a, b, c, d) => {
+            put(0);
+            show(a);
+            show(b);
+            show_long(c);
+            show_long(d);
         }
     }
 }

@@ -1,7 +1,7 @@
 // Cases of the public operations as data. On standard input a line that begins with '-' announces a plan, whose bytes stand on the next line, set apart
-// by commas as 01 writes them. Each line after it is a case of that plan: `judge`, `marks` and `write` with the lengths of what they are lent, `margin`,
-// or else the bytes of a piece of evidence, an empty line too. A line that begins with '#' is a comment. All but the plans' bytes is written back, a
-// case with its answer behind it: 01's number and values; how many numbers of each scratch slice are zero then; and the output.
+// by commas as 01 writes them. Each line after it is a case of that plan: `judge`, `marks`, `write`, `sheet_margin` and `harm` with the lengths of what
+// they are lent, `margin`, or else the bytes of a piece of evidence, an empty line too. A line that begins with '#' is a comment. All but the plans'
+// bytes is written back, a case with its answer behind it: 01's number and values; how many numbers of each scratch slice are zero then; and the output.
 mod answers;
 mod lent;
 mod operation;
@@ -10,9 +10,11 @@ ghost use mathlib.Core.Path.{_≡_};
 ghost use Prim.Native.Nat.{_+_, _≤_, _<_, min};
 ghost use lib.ListN.{length};
 use answers::Answer;
+use answers::of_bound;
 use answers::of_evidence;
 use answers::of_judgement;
 use answers::of_marking;
+use answers::of_onset;
 use answers::of_tolerance;
 use answers::of_written;
 use answers::say;
@@ -66,6 +68,8 @@ fn call(
     match operation {
         Operation::Marks => of_marking(drift::marks(plan, s1, s2, s3, s4, out)),
         Operation::Write => of_written(drift::write_evidence(plan, s1, s2, s3, s4, out)),
+        Operation::SheetMargin => of_bound(drift::sheet_margin(plan, s1, s2, s3, s4)),
+        Operation::Harm => of_onset(drift::harm(plan, s1, s2, s3, s4)),
         _ => of_judgement(drift::judge(plan, s1, s2, s3, s4)),
     }
 }
@@ -103,7 +107,9 @@ fn answer(plan: &[u8], line: &[u8]) {
     match operation {
         Operation::Margin => show_answer(of_tolerance(drift::margin(plan))),
         Operation::Check => check(plan, line),
-        Operation::Judge => run(operation, plan, line, 1),
+        Operation::Judge | Operation::SheetMargin | Operation::Harm => {
+            run(operation, plan, line, 1)
+        }
         Operation::Marks | Operation::Write => run(operation, plan, line, 2),
     }
 }

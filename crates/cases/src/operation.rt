@@ -7,6 +7,8 @@ pub enum Operation {
     Marks,
     Write,
     Margin,
+    SheetMargin,
+    Harm,
     Check,
 }
 
@@ -18,6 +20,12 @@ pub fn operation_of(line: &[u8]) -> Operation {
     }
     if first == b'w' {
         return Operation::Write;
+    }
+    if first == b's' {
+        return Operation::SheetMargin;
+    }
+    if first == b'h' {
+        return Operation::Harm;
     }
     if first != b'm' {
         return Operation::Check;

@@ -202,3 +202,16 @@ module _ (bytes : List ℕ) where
   slip-window lent taken none shown e =
       let (p, F) = trail-harms-within bytes lent taken shown e in
       (p, slip-within none F)
+
+  -- Harm within a number of jumps that does not depend on the drift needs none: perfect clocks enter a forbidden location too.
+  pub within-without-drift : (b : ℕ) → FragileWithin plan (λ q. b + 0 * q) → Perfect plan → ⊥
+  within-without-drift b F none =
+      let (N, some, gs, l, v, t, r, x, few) = F .enters-some 1 (b + 2) (b + 2) (omega arith) (omega arith) in
+      true≢false (sym x ∙ drift-only none b 1 (b + 2) N (omega arith) some gs l v t (omega arith) r)
+
+  -- so it is where a trail passes that no touch gives a rate
+  pub trail-without-drift : (lent : List ℕ) (taken : refusal bytes lent ≡ 0) (shown : List ℕ) (e : checkAnswer bytes shown lent ≡ kindAnswer 2)
+      → trailRate plan (trail-harms-within bytes lent taken shown e .0 .0) ≡ 0 → Perfect plan → ⊥
+  trail-without-drift lent taken shown e z =
+      let (p, F) = trail-harms-within bytes lent taken shown e in
+      within-without-drift (trailBase plan (p .0)) (subst (λ (r : ℕ). FragileWithin plan (λ q. trailBase plan (p .0) + r * q)) z F)

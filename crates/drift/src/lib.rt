@@ -3,11 +3,15 @@
 
 pub use op_check::Evidence;
 pub use op_check::check_evidence;
+pub use op_harm::Onset;
+pub use op_harm::harm;
 pub use op_judge::Judgement;
 pub use op_judge::judge;
 pub use op_margin::Tolerance;
 pub use op_margin::margin;
 pub use op_marks::Marking;
 pub use op_marks::marks;
+pub use op_sheet_margin::Bound;
+pub use op_sheet_margin::sheet_margin;
 pub use op_write::Written;
 pub use op_write::write_evidence;

@@ -1,13 +1,13 @@
 -- Every value of an answer fits its field.
-use Prim.Native.Nat.{ℕ, zero, suc, _+_, _*_, _%_, _^_, _≤_, zero-le}
+use Prim.Native.Nat.{ℕ, zero, suc, _+_, _*_, _%_, _^_, _≤_, _<_, zero-le}
 use native.Mathlib.Nat.{le-of-lt, le-trans}
 use native.Mathlib.Omega.{arith}
 use mathlib.Core.Path.{_≡_, refl, sym, _∙_}
 use mathlib.Core.Bool.{Bool, true, false, cond}
 use mathlib.Core.List.{List, [], _∷_}
-use lib.ListN.{length, getD}
+use lib.ListN.{length, getD, set, drop}
 use lib.Dec.{eqb, ltb}
-use borrow.Author.Tests.{eqb-true, ltb-true}
+use borrow.Author.Tests.{eqb-true, ltb-true, lt-ltb, le-ltb, le-leb, lt-leb}
 use Rattle.graph.proofs.Plan.{size-states}
 use Rattle.theory.specs.Marked.{marks, unsafe}
 use Rattle.theory.specs.Trail.{trailSteps}
@@ -32,12 +32,17 @@ use Rattle.op_write.specs.Write.{writtenAnswer, writeAnswer}
 use Rattle.robust.specs.Margin.{margin}
 use Rattle.robust_models.proofs.Models.{margin-uniform}
 use Rattle.op_margin.specs.Margin.{marginAnswer}
+use Rattle.outlook.specs.declared.Outlook.{Outlook}
+use Rattle.outlook.specs.Outlook.{ourMargin, outlookOf}
+use Rattle.outlook.proofs.Found.{margin-few}
+use Rattle.op_sheet_margin.specs.SheetMargin.{boundValues, sheetMarginAnswer}
+use Rattle.op_harm.specs.Harm.{harmValues, harmAnswer}
 use Rattle.number.specs.Answer.{Answer, answer}
 use Rattle.call.specs.Call.{modelOf, statesOf, refusal}
 use Rattle.op_judge.specs.Judge.{countOf, verdict, judged}
 use Rattle.op_marks.specs.Marks.{marksRefusal, marked}
 use Rattle.theory.proofs.Trail.{steps-verdict}
-use Rattle.drift_c.specs.Words.{value, judgeWord, marksWord, checkWord, writeWord, numberWord, marginWord, SmallValue, maxField, Fields, BytesFit}
+use Rattle.drift_c.specs.Words.{value, judgeWord, marksWord, checkWord, writeWord, numberWord, marginWord, harmShort, harmWord, harmOut, SmallValue, maxField, Fields, StatesFit, BytesFit}
 use Rattle.number.specs.declared.Number.the-variants as number
 
 module _ (m : Model) (ok : Lawful m) where
@@ -182,3 +187,89 @@ bound-word-is w s a e = omega (arith, e)
 pub margin-refused-is : (r : ℕ) → r ≡ marginWord (record { number = r; values = [] })
 unfolding marginWord
 margin-refused-is r = omega arith
+
+-- ---- the margin of the sheet, and harm
+
+pub bound-fields : (bytes lent : List ℕ) → Fields (sheetMarginAnswer bytes lent)
+unfolding sheetMarginAnswer answer boundValues outlookOf
+bound-fields bytes lent =
+    record {
+      fit = λ i. cond-ind (λ (a : Answer). value a i ≤ maxField) (eqb (refusal bytes lent) 0)
+          (λ t. few (accepted bytes lent (eqb-true _ _ t)) i)
+          (λ _. zero-le);
+    }
+  where
+    m : Model
+    m = modelOf bytes
+
+    few : Lawful m → (i : ℕ) → getD (boundValues (states m) (outlookOf m)) i 0 ≤ maxField
+    few ok i = cond-ind (λ (x : Outlook). getD (boundValues (states m) x) i 0 ≤ maxField) (unsafe (systemOfModel m)) (λ _. bad i) (λ u. good u i)
+      where
+        bad : (i : ℕ) → getD (1 ∷ states m ∷ 0 ∷ []) i 0 ≤ maxField
+        bad zero = omega arith
+        bad (suc zero) = omega (arith, states-limit ok)
+        bad (suc (suc zero)) = zero-le
+        bad (suc (suc (suc i))) = zero-le
+
+        good : unsafe (systemOfModel m) ≡ false → (i : ℕ) → getD (0 ∷ states m ∷ ourMargin m ∷ []) i 0 ≤ maxField
+        good u zero = zero-le
+        good u (suc zero) = omega (arith, states-limit ok)
+        good u (suc (suc zero)) = omega (arith, states-limit ok, margin-few m ok u, ok .clocks)
+        good u (suc (suc (suc i))) = zero-le
+
+pub harm-states : (bytes lent : List ℕ) → StatesFit (harmAnswer bytes lent)
+unfolding harmAnswer answer harmValues outlookOf
+harm-states bytes lent =
+    record {
+      few = cond-ind (λ (a : Answer). value a 1 ≤ maxField) (eqb (refusal bytes lent) 0)
+          (λ t. few (accepted bytes lent (eqb-true _ _ t)))
+          (λ _. zero-le);
+    }
+  where
+    m : Model
+    m = modelOf bytes
+
+    few : Lawful m → getD (harmValues (states m) (outlookOf m)) 1 0 ≤ maxField
+    few ok =
+        cond-ind (λ (x : Outlook). getD (harmValues (states m) x) 1 0 ≤ maxField) (unsafe (systemOfModel m))
+        (λ _. omega (arith, states-limit ok))
+        (λ _. omega (arith, states-limit ok))
+
+module _ (s b r : ℕ) (out : List ℕ) where
+  -- the word where there is no harm, and where there is, by the room for it
+  pub harm-safe-word : (w room : ℕ) → w ≡ 2 ^ 8 * 0 + 2 ^ 16 * s + 2 ^ 40 * 0 → w ≡ harmWord (record { number = 0; values = 0 ∷ s ∷ 0 ∷ 0 ∷ [] }) room
+  unfolding harmWord harmShort
+  harm-safe-word w room e = omega (arith, e)
+
+  pub harm-safe-out : out ≡ harmOut (record { number = 0; values = 0 ∷ s ∷ 0 ∷ 0 ∷ [] }) out
+  unfolding harmOut
+  harm-safe-out = refl
+
+  pub harm-short-word : (room : ℕ) → room < 2 → 9 ≡ harmWord (record { number = 0; values = 1 ∷ s ∷ b ∷ r ∷ [] }) room
+  unfolding harmWord harmShort
+  harm-short-word room h = simp (lt-ltb room 2 h) refl
+
+  pub harm-short-out : length out < 2 → out ≡ harmOut (record { number = 0; values = 1 ∷ s ∷ b ∷ r ∷ [] }) out
+  unfolding harmOut
+  harm-short-out h = simp (lt-leb 2 (length out) h) refl
+
+  pub harm-told-word : (w room : ℕ) → 2 ≤ room → w ≡ 2 ^ 8 * 1 + 2 ^ 16 * s + 2 ^ 40 * 0 → w ≡ harmWord (record { number = 0; values = 1 ∷ s ∷ b ∷ r ∷ [] }) room
+  unfolding harmWord harmShort
+  harm-told-word w room h e = simp (le-ltb room 2 h) (omega (arith, e))
+
+  pub harm-told-out : 2 ≤ length out → set (set out 0 b) 1 r ≡ harmOut (record { number = 0; values = 1 ∷ s ∷ b ∷ r ∷ [] }) out
+  unfolding harmOut
+  harm-told-out h = simp (le-leb 2 (length out) h) (two out h)
+    where
+      two : (l : List ℕ) → 2 ≤ length l → set (set l 0 b) 1 r ≡ b ∷ r ∷ drop 2 l
+      two [] k = absurd (omega arith)
+      two (x ∷ []) k = absurd (omega arith)
+      two (x ∷ y ∷ l) k = refl
+
+pub harm-refused-word : (r room : ℕ) → r ≡ harmWord (record { number = r; values = [] }) room
+unfolding harmWord harmShort
+harm-refused-word r room = omega arith
+
+pub harm-refused-out : (r : ℕ) (out : List ℕ) → out ≡ harmOut (record { number = r; values = [] }) out
+unfolding harmOut
+harm-refused-out r out = refl

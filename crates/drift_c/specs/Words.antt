@@ -1,7 +1,10 @@
 -- Answers as one number each, made of fields. On a refusal the fields beside the number are 0.
 use mathlib.Core.Path.{_≡_}
+use mathlib.Core.Bool.{Bool, cond, _&&_}
+use mathlib.Core.List.{List, _∷_}
 use Prim.Native.Nat.{ℕ, _+_, _-_, _*_, _%_, _^_, _≤_, _<_}
-use lib.ListN.{getD}
+use lib.ListN.{length, getD, drop}
+use lib.Dec.{eqb, ltb, leb}
 use Rattle.number.specs.declared.Number.{Number}
 use Rattle.number.specs.declared.Number.the-variants.{Value, Refused}
 use Rattle.number.specs.Answer.{Answer}
@@ -30,6 +33,17 @@ writeWord a = a .number + 2 ^ 8 * value a 0 + 2 ^ 16 * value a 1
 unfoldable pub marginWord : Answer → ℕ
 marginWord a = a .number + 2 ^ 16 * value a 0 + 2 ^ 40 * value a 1
 
+-- Harm is told in a word and in two numbers, base and rate, at the front of an output; it is refused by 9 where there is harm and no room for them.
+unfoldable pub harmShort : Answer → ℕ → Bool
+harmShort a room = eqb (value a 0) 1 && ltb room 2
+
+-- number + 2^8 · verdict (0 safe, 1 unsafe) + 2^16 · S
+unfoldable pub harmWord : Answer → ℕ → ℕ
+harmWord a room = cond (harmShort a room) 9 (a .number + 2 ^ 8 * value a 0 + 2 ^ 16 * value a 1)
+
+unfoldable pub harmOut : Answer → List ℕ → List ℕ
+harmOut a out = cond (eqb (value a 0) 1 && leb 2 (length out)) (value a 2 ∷ value a 3 ∷ drop 2 out) out
+
 -- number + 2^8 · value + 2^32 · next, the offset after the number, of which a word has room for the lower 32 bits
 unfoldable pub numberWord : Number → ℕ
 numberWord (Value v to) = 2 ^ 8 * v + 2 ^ 32 * (to % 2 ^ 32)
@@ -47,6 +61,10 @@ pub record BytesFit (a : Answer) : Type 0 where
 -- the states and the count have 24 bits each
 abbrev pub maxField : ℕ
 maxField = 2 ^ 24 - 1
+
+-- the number of states fits its field
+pub record StatesFit (a : Answer) : Type 0 where
+  pub few : value a 1 ≤ maxField
 
 -- the values fit their fields
 pub record Fields (a : Answer) : Type 0 where

@@ -8,15 +8,20 @@ ghost use Rattle.op_judge.specs.Judge.{judged, judgementAnswer};
 ghost use Rattle.op_marks.specs.Marks.{marked, output, markingAnswer};
 ghost use Rattle.op_check.specs.Check.{checkAnswer, evidenceAnswer};
 ghost use Rattle.op_margin.specs.Margin.{marginAnswer, toleranceAnswer};
+ghost use Rattle.op_sheet_margin.specs.SheetMargin.{sheetMarginAnswer, boundAnswer};
+ghost use Rattle.op_harm.specs.Harm.{harmAnswer, onsetAnswer};
 ghost use Rattle.op_write.specs.Write.{writeAnswer, writeOutput, writtenAnswer};
 ghost use Rattle.number.specs.Number.{readNumber};
-ghost use Rattle.drift_c.specs.Words.{judgeWord, marksWord, checkWord, writeWord, numberWord, marginWord, maxField, Fields, BytesFit, SmallValue};
+ghost use Rattle.drift_c.specs.Words.{judgeWord, marksWord, checkWord, writeWord, numberWord, marginWord, harmWord, harmOut, maxField, Fields, StatesFit, BytesFit, SmallValue};
+use drift::Bound;
 use drift::Evidence;
 use drift::Judgement;
 use drift::Marking;
+use drift::Onset;
 use drift::Tolerance;
 use drift::Written;
 use limits::Word;
+use limits::refusal::OUTPUT_SHORT;
 use number::Number;
 
 // Where the fields of an answer begin; the number of a refusal stands before them.
@@ -93,6 +98,38 @@ fn margin_word(answer: Tolerance) -> u64
     match answer {
         Tolerance::Bound(states, margin) => { states as u64 * AT_STATES + margin as u64 * AT_COUNT }
         Tolerance::Refused(number) => number as u64,
+    }
+}
+
+// As the judge's, with the margin for the count.
+fn bound_word(answer: Bound) -> u64
+    requires { ⌜ Fields (boundAnswer answer) ⌝ }
+    ensures { λ r. ⌜ r ≡ judgeWord (boundAnswer answer) ⌝ }
+{
+    match answer {
+        Bound::Safe(states, margin) => verdict_word(0, states, margin),
+        Bound::Unsafe(states) => verdict_word(1, states, 0),
+        Bound::Refused(number) => number as u64,
+    }
+}
+
+// Base and rate into the output, where there is harm.
+fn put_harm(answer: Onset, out: &mut [u64]) -> u64
+    requires { ⌜ StatesFit (onsetAnswer answer) ⌝ }
+    ensures { λ r. ⌜ r ≡ harmWord (onsetAnswer answer) (length (now (out .entry))) ⌝ }
+    ensures { λ _. ⌜ now (out .exit) ≡ harmOut (onsetAnswer answer) (now (out .entry)) ⌝ }
+{
+    match answer {
+        Onset::Safe(states) => verdict_word(0, states, 0),
+        Onset::Within(states, base, rate) => {
+            if out.len() < 2 {
+                return OUTPUT_SHORT as u64;
+            }
+            out[0] = base;
+            out[1] = rate;
+            verdict_word(1, states, 0)
+        }
+        Onset::Refused(number) => number as u64,
     }
 }
 
@@ -202,6 +239,56 @@ pub extern "C" fn drift_write_evidence(
 {
     let answer = drift::write_evidence(model, s1, s2, s3, s4, out);
     write_word(answer)
+}
+
+// number + 2^8 · verdict (0 safe, 1 unsafe) + 2^16 · S + 2^40 · A, which is 0 where unsafe
+#[no_mangle]
+pub extern "C" fn drift_sheet_margin(
+    model: &[u8],
+    s1: &mut [Word],
+    s2: &mut [Word],
+    s3: &mut [Word],
+    s4: &mut [Word],
+) -> u64
+    ensures { λ r. ⌜
+        r
+        ≡ judgeWord (sheetMarginAnswer (now (model .entry)) (lengths (now (s1 .entry)) (now (s2 .entry)) (now (s3 .entry)) (now (s4 .entry))))
+        ⌝ }
+    ensures { λ _. ⌜
+        ScratchLeft (now (model .entry)) (now (s1 .entry)) (now (s2 .entry)) (now (s3 .entry)) (now (s4 .entry))
+        (now (s1 .exit)) (now (s2 .exit)) (now (s3 .exit)) (now (s4 .exit))
+        ⌝ }
+{
+    let answer = drift::sheet_margin(model, s1, s2, s3, s4);
+    bound_word(answer)
+}
+
+// number + 2^8 · verdict (0 safe, 1 unsafe) + 2^16 · S; where unsafe, base and rate at the front of the output
+#[no_mangle]
+pub extern "C" fn drift_harm(
+    model: &[u8],
+    s1: &mut [Word],
+    s2: &mut [Word],
+    s3: &mut [Word],
+    s4: &mut [Word],
+    out: &mut [u64],
+) -> u64
+    ensures { λ r. ⌜
+        r
+        ≡ harmWord (harmAnswer (now (model .entry)) (lengths (now (s1 .entry)) (now (s2 .entry)) (now (s3 .entry)) (now (s4 .entry))))
+        (length (now (out .entry)))
+        ⌝ }
+    ensures { λ _. ⌜
+        now (out .exit)
+        ≡ harmOut (harmAnswer (now (model .entry)) (lengths (now (s1 .entry)) (now (s2 .entry)) (now (s3 .entry)) (now (s4 .entry)))) (now (out .entry))
+        ⌝ }
+    ensures { λ _. ⌜
+        ScratchLeft (now (model .entry)) (now (s1 .entry)) (now (s2 .entry)) (now (s3 .entry)) (now (s4 .entry))
+        (now (s1 .exit)) (now (s2 .exit)) (now (s3 .exit)) (now (s4 .exit))
+        ⌝ }
+{
+    let answer = drift::harm(model, s1, s2, s3, s4);
+    put_harm(answer, out)
 }
 
 // number + 2^8 · value + 2^32 · next

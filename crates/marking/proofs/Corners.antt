@@ -1,7 +1,7 @@
 -- Touch steps: the slots of a chain hold a point, and a flag stands for a location and a point.
-use mathlib.Core.Path.{_≡_, refl, sym, ap, _∙_}
+use mathlib.Core.Path.{_≡_, refl, sym, _∙_}
 use mathlib.Core.Logic.{_⊎_, inl, inr, ⊎-elim}
-use mathlib.Core.List.{List, [], _∷_, List·Memᴰ, List·Memᴰ·head, List·Memᴰ·tail, List·Memᴰ·cases-cons, List·Memᴰ·not-nil}
+use mathlib.Core.List.{List, _∷_, List·Memᴰ, List·Memᴰ·head, List·Memᴰ·tail, List·Memᴰ·cases-cons, List·Memᴰ·not-nil}
 use Prim.Native.Nat.{ℕ, suc, _+_, _*_, _/_, _%_, _≤_, _<_}
 use native.Mathlib.Omega.{arith}
 use native.Mathlib.Decide.{ℕ-discrete}
@@ -10,25 +10,13 @@ use lib.ListN.{length, getD, set}
 use lib.Seq.{getD-set-other}
 use Rattle.limits.specs.Limits.{slotCount, pointCount}
 use Rattle.shapes.specs.Layout.{cornersAt, cornersIn}
-use Rattle.theory.specs.Adjacency.{Chain, end, slot, Chains}
+use Rattle.theory.specs.Adjacency.{Chain, Chains}
+use Rattle.theory.proofs.Chains.{chain-cons, chain-nil}
 use Rattle.search.specs.Queue.{Takes, TakesAll, Covers}
 use Rattle.search.proofs.Queue.{takes-reached}
 use Rattle.marking.specs.Tables.{RegionTables}
 use Rattle.marking.specs.Corners.{AtPoint, Visits, Ready}
 use Rattle.shapes.proofs.Parts.{corner-at}
-
--- ---- chains
-
-chain-cons : {link : List ℕ} {next : ℕ} {l : List ℕ} → Chain link next l → (s : ℕ) → next ≡ suc s
-    → (m : List ℕ) × (l ≡ s ∷ m) × (s < length link) × (getD link s 0 ≤ s) × Chain link (getD link s 0) m
-chain-cons end s e = absurd (omega arith)
-chain-cons {link} (slot {s = t} {l = m} a b c) s e =
-    let d : t ≡ s = omega arith in
-    (m, ap (λ (k : ℕ). k ∷ m) d, rw d at a, rw d at b, rw d at c)
-
-chain-nil : {link : List ℕ} {next : ℕ} {l : List ℕ} → Chain link next l → next ≡ 0 → l ≡ []
-chain-nil end e = refl
-chain-nil (slot a b c) e = absurd (omega arith)
 
 -- ---- a point: the slots of its chain are those that hold it
 

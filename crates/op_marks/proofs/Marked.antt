@@ -1,17 +1,15 @@
 -- What the marks call says and leaves: refused, or a byte for each state from its distance.
 use Prim.Native.Nat.{ℕ, _+_, _≤_, _<_}
 use native.Mathlib.Omega.{arith}
-use native.Mathlib.Decide.{ℕ-discrete}
 use mathlib.Core.Path.{_≡_, refl, sym, ap, _∙_}
 use mathlib.Core.List.{List, [], _∷_, _++_}
-use lib.ListN.{length, getD, set, drop}
-use lib.Seq.{ext-getD, getD-set-same, getD-set-other}
+use lib.ListN.{length, getD, drop}
 use lib.Dec.{ltb}
 use borrow.Author.Tests.{ne-eqb, lt-ltb, le-ltb}
-use Rattle.theory.specs.Below.{bit, tab}
+use Rattle.theory.specs.Below.{bit}
 use Rattle.theory.specs.System.{System, Laws}
 use Rattle.theory.specs.Marked.{marks}
-use Rattle.theory.proofs.Below.{tab-length, tab-at}
+use Rattle.theory.proofs.Below.{is-table}
 use Rattle.theory.proofs.Levels.{mark-marks}
 use Rattle.number.specs.Answer.{answer}
 use Rattle.model.specs.declared.Model.{Model}
@@ -23,21 +21,6 @@ use Rattle.op_marks.specs.declared.Marking.the-variants.{Marked, Refused
 use Rattle.op_marks.specs.Marks.{short, marksRefusal, marked, marksOf, marksIn, output, markingAnswer}
 
 -- ---- a byte for each state
-
-pub is-table : (l : List ℕ) (n : ℕ) (f : ℕ → ℕ) → length l ≡ n → ((k : ℕ) → k < n → getD l k 0 ≡ f k) → l ≡ tab n f
-is-table l n f e h =
-    ext-getD 0 l (tab n f) (e ∙ sym (tab-length n f))
-    (λ i b. let c = rw e at b in h i c ∙ sym (tab-at n f i c))
-
--- a loop that stores f of each element of another list
-pub marks-next : (out far : List ℕ) (p x : ℕ) → p < length out → x ≡ bit (ltb 0 (getD far p 0))
-    → ((k : ℕ) → k < p → getD out k 0 ≡ bit (ltb 0 (getD far k 0)))
-    → (k : ℕ) → k < p + 1 → getD (set out p x) k 0 ≡ bit (ltb 0 (getD far k 0))
-marks-next out far p x b e h k c = by (ℕ-discrete k p)
-  where
-    by : Dec (k ≡ p) → getD (set out p x) k 0 ≡ bit (ltb 0 (getD far k 0))
-    by (yes z) = rw z (getD-set-same out p x 0 b ∙ e)
-    by (no z) = getD-set-other out p k x 0 z ∙ h k (omega arith)
 
 module _ (Y : System) (L : Laws Y) where
   -- marks from distances

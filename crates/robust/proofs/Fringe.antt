@@ -19,7 +19,7 @@ module _ (Y : System) (L : Laws Y) (isIn : ℕ → Bool) where
   unfolding fringe
   fringe-test q = and↔ (not↔ (isIn q)) (any↔ (Y .size) λ p. and↔ (test↔ (isIn p)) (test↔ (Y .near p q)))
 
-  fringe-below : {q : ℕ} → Fringe Y isIn q → (q < Y .size) × (Y .allowed q ≡ true)
+  pub fringe-below : {q : ℕ} → Fringe Y isIn q → (q < Y .size) × (Y .allowed q ≡ true)
   fringe-below {q} f = let a = L .near-joins (f .beside) q (f .near) .1 in (L .allowed-below q a, a)
 
   pub fringe-law : (q : ℕ) → (fringe Y isIn q ≡ true) ↔ Fringe Y isIn q
@@ -32,7 +32,7 @@ module _ (Y : System) (L : Laws Y) (isIn : ℕ → Bool) where
 
 -- ---- walks through the fringe
 
-first : {P : LabelledSystem} {isIn : ℕ → Bool} {p k : ℕ} → FringeWalk P isIn p k → Fringe (P .system) isIn p
+pub first : {P : LabelledSystem} {isIn : ℕ → Bool} {p k : ℕ} → FringeWalk P isIn p k → Fringe (P .system) isIn p
 first (FringeWalk.stop i) = i
 first (FringeWalk.rest i d w) = i
 first (FringeWalk.take e i d w) = i

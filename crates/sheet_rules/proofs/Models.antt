@@ -23,12 +23,13 @@ use Rattle.graph.proofs.Plan.{within, start-at}
 use Rattle.graph.proofs.Models.{system-laws, face-allowed}
 use Rattle.region_corners.specs.Corners.{regionAt}
 use Rattle.region_corners.specs.Faces.{faceOf}
+use Rattle.region_corners.specs.Shapes.{Shapes}
 use Rattle.successors.specs.Flow.{regionsIn}
 use Rattle.successors.proofs.Room.{regions-limit}
 use Rattle.sheet_rules.specs.Tables.{Slots, RuleSizes, RuleTables}
 use Rattle.sheet_rules.specs.Rules.{Blank}
 use Rattle.sheet_rules.proofs.Keeps.{location-room}
-use Rattle.sheet_rules.proofs.Systems.{Tables, SheetKeeps, tables-sizes, array-law}
+use Rattle.sheet_rules.proofs.Systems.{CornerTables, Tables, SheetKeeps, tables-sizes, array-law}
 use Rattle.graph.proofs.Plan as plan
 
 face-of : (n M i j : ℕ) → i < length (regions n M) → j < length (regions n M) → faceOf n M i j ≡ face (regionAt n M i) (regionAt n M j)
@@ -39,7 +40,7 @@ face-of n M i j h k = rw (lt-ltb i (length (regions n M)) h, lt-ltb j (length (r
 pub count-divides : (m : Model) → Lawful m → (S : ℕ) → S ≡ states m → S / m .locations ≡ regionsIn m
 count-divides m ok S e = rw e (mul-div-cancel-left (regionsIn m) (ok .locations .0))
 
-module _ (m : Model) {first targets shapes : List ℕ} (F : RuleTables m first targets shapes) where
+module _ (m : Model) {shapes : List ℕ} (ok : Lawful m) (F : Shapes (m .clocks) (m .ceiling) shapes) where
   region-below : (p : ℕ) → p < states m → p % regionsIn m < regionsIn m
   region-below p b = mod-lt p (count-positive (automatonOf m) (m .locations) p b)
 
@@ -52,43 +53,27 @@ module _ (m : Model) {first targets shapes : List ℕ} (F : RuleTables m first t
   region-shares : (p q : ℕ) → p < states m → q < states m
       → (shares (regionOf (automatonOf m) p) (regionOf (automatonOf m) q) ≡ true) ↔ ShareCorner (cornersIn (regionsIn m) shapes) (p % regionsIn m) (q % regionsIn m)
   unfolding regionOf regionCount automatonOf
-  region-shares p q b c = F .tables .slots .shared (p % regionsIn m) (q % regionsIn m) (region-below p b) (region-below q c)
+  region-shares p q b c = F .slots .shared (p % regionsIn m) (q % regionsIn m) (region-below p b) (region-below q c)
 
   slots-of : Slots (regionsIn m) (cornersIn (regionsIn m) shapes)
   unfolding regionCount automatonOf
-  slots-of = record { long = F .tables .slots .long; below = F .tables .slots .below }
+  slots-of = record { long = F .slots .long; below = F .slots .below }
 
   faces-of : Holds (rowsIn (regionsIn m) shapes) (facesIn (regionsIn m) shapes) (regionsIn m) (faceOf (m .clocks) (m .ceiling))
   unfolding regionCount automatonOf
-  faces-of = F .tables .face
+  faces-of = F .face
 
   room-of : ShapesRoom (regionsIn m) shapes
   unfolding regionCount automatonOf
-  room-of = record { few = regions-limit (F .lawful); long = F .tables .long }
+  room-of = record { few = regions-limit ok; long = F .long }
 
-  pub model-tables : Tables (systemOfModel m) (m .locations) (m .start * regionsIn m) (regionsIn m) (m .kind) first targets shapes
+  pub model-corners : CornerTables (systemOfModel m) (m .locations) (regionsIn m) shapes
   unfolding systemOf locationOf automatonOf
-  model-tables = record {
+  model-corners = record {
     states = refl;
-    starts = start-at m;
-    forbidden = λ p b. refl;
-    flow = F .flow .holds;
-    facing = faceOf (m .clocks) (m .ceiling);
-    face-lists = faces-of;
-    face = λ p q. (
-      λ e.
-          let ((a, c), (l, f)) = beside-law (automatonOf m) (m .locations) (within m (F .lawful)) face p q .0 e in
-          (allowed-state-law (automatonOf m) (m .locations) p .1 a, c .0, l, region-face p q (a .0) (c .0) ∙ f),
-      λ (a, c, l, f).
-          let b = allowed-state-law (automatonOf m) (m .locations) p .0 a in
-          let g = sym (region-face p q (b .0) c) ∙ f in
-          let d = face-allowed m (F .lawful) p q c a l g in
-          beside-law (automatonOf m) (m .locations) (within m (F .lawful)) face p q .1
-          ((b, allowed-state-law (automatonOf m) (m .locations) q .0 d), (l, g)),
-    );
     near = λ p q. (
       λ e.
-          let ((a, c), (l, f)) = beside-law (automatonOf m) (m .locations) (within m (F .lawful)) shares p q .0 e in (
+          let ((a, c), (l, f)) = beside-law (automatonOf m) (m .locations) (within m ok) shares p q .0 e in (
             allowed-state-law (automatonOf m) (m .locations) p .1 a,
             allowed-state-law (automatonOf m) (m .locations) q .1 c,
             l,
@@ -97,26 +82,50 @@ module _ (m : Model) {first targets shapes : List ℕ} (F : RuleTables m first t
       λ (a, c, l, f).
           let b = allowed-state-law (automatonOf m) (m .locations) p .0 a in
           let d = allowed-state-law (automatonOf m) (m .locations) q .0 c in
-          beside-law (automatonOf m) (m .locations) (within m (F .lawful)) shares p q .1 ((b, d), (l, region-shares p q (b .0) (d .0) .1 f)),
+          beside-law (automatonOf m) (m .locations) (within m ok) shares p q .1 ((b, d), (l, region-shares p q (b .0) (d .0) .1 f)),
     );
     slots = slots-of;
     room = room-of;
   }
 
+module _ (m : Model) (R : ℕ) (is : R ≡ regionsIn m) where
+  pub some-regions : 0 < R
+  some-regions = rw is (plan.some-regions m)
+
+  -- the states of location l
+  pub location-fits : (S : ℕ) → S ≡ states m → (l : ℕ) → l < m .locations → l * R + R ≤ S
+  location-fits S e l b = location-room l (m .locations) R S (rw is e) b
+
+module _ (m : Model) {first targets shapes : List ℕ} (F : RuleTables m first targets shapes) where
+  pub model-tables : Tables (systemOfModel m) (m .locations) (m .start * regionsIn m) (regionsIn m) (m .kind) first targets shapes
+  unfolding systemOf locationOf automatonOf
+  model-tables = record {
+    corners = model-corners m (F .lawful) (F .tables);
+    starts = start-at m;
+    forbidden = λ p b. refl;
+    flow = F .flow .holds;
+    facing = faceOf (m .clocks) (m .ceiling);
+    face-lists = faces-of m (F .lawful) (F .tables);
+    face = λ p q. (
+      λ e.
+          let ((a, c), (l, f)) = beside-law (automatonOf m) (m .locations) (within m (F .lawful)) face p q .0 e in
+          let same = region-face m (F .lawful) (F .tables) p q (a .0) (c .0) in
+          (allowed-state-law (automatonOf m) (m .locations) p .1 a, c .0, l, same ∙ f),
+      λ (a, c, l, f).
+          let b = allowed-state-law (automatonOf m) (m .locations) p .0 a in
+          let g = sym (region-face m (F .lawful) (F .tables) p q (b .0) c) ∙ f in
+          let d = face-allowed m (F .lawful) p q c a l g in
+          beside-law (automatonOf m) (m .locations) (within m (F .lawful)) face p q .1
+          ((b, allowed-state-law (automatonOf m) (m .locations) q .0 d), (l, g)),
+    );
+  }
+
   -- ---- what the test of the rules needs and tells; R is the number of regions
 
   module _ (R : ℕ) (is : R ≡ regionsIn m) where
-    pub some-regions : 0 < R
-    some-regions = rw is (plan.some-regions m)
-
-    module _ (S : ℕ) (e : S ≡ states m) where
-      -- the states of location l
-      pub location-fits : (l : ℕ) → l < m .locations → l * R + R ≤ S
-      location-fits l b = location-room l (m .locations) R S (rw is e) b
-
-      pub sizes-are : RuleSizes S R first targets shapes
-      unfolding systemOf
-      sizes-are = rw (is, e) (tables-sizes (systemOfModel m) (system-laws m (F .lawful)) model-tables)
+    pub sizes-are : (S : ℕ) → S ≡ states m → RuleSizes S R first targets shapes
+    unfolding systemOf
+    sizes-are S e = rw (is, e) (tables-sizes (systemOfModel m) (system-laws m (F .lawful)) model-tables)
 
     pub keeps-told : (sheet : List ℕ) → Blank (systemOfModel m) sheet → (b : Bool)
         → (b ≡ true) ↔ SheetKeeps sheet first targets shapes (m .kind) (m .locations) (m .start * R) R

@@ -26,7 +26,7 @@ use shapes::corners_of;
 use shapes::faces_of;
 use shapes::rows_of;
 
-fn is_in(sheet: &[Word], p: usize) -> bool
+pub fn is_in(sheet: &[Word], p: usize) -> bool
     requires { ⌜ p < length (now sheet) ⌝ }
     ensures { λ b. ⌜ b ≡ inOf (now (sheet .entry)) p ⌝ }
 {
@@ -111,7 +111,7 @@ fn note_state(
 }
 
 // For each point 1 where it is a corner of an in-state of the location.
-fn note_corners(sheet: &[Word], corner: &[Word], base: usize, regions: usize) -> [u8; POINTS]
+pub fn note_corners(sheet: &[Word], corner: &[Word], base: usize, regions: usize) -> [u8; POINTS]
     requires { ⌜ (base + regions ≤ length (now sheet)) × Slots regions (now corner) ⌝ }
     ensures { λ r. ⌜ Noted (now (sheet .entry)) (now (corner .entry)) r base regions ⌝ }
 {
@@ -125,7 +125,7 @@ fn note_corners(sheet: &[Word], corner: &[Word], base: usize, regions: usize) ->
 }
 
 // Region i has a corner that is noted.
-fn touches(
+pub fn touches(
     sheet: &[Word],
     corner: &[Word],
     noted: &[u8; POINTS],
@@ -223,7 +223,7 @@ fn location_keeps(
 }
 
 // The number of regions, by the number of states.
-fn regions_in(m: Model, count: usize) -> usize
+pub fn regions_in(m: Model, count: usize) -> usize
     requires { ⌜ Lawful m × (count ≡ states m) ⌝ }
     ensures { λ r. ⌜ r ≡ regionsIn m ⌝ }
 {

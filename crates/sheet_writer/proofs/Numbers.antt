@@ -10,7 +10,7 @@ use Rattle.theory.specs.System.{onClosedWalk}
 use Rattle.theory.specs.Height.{height}
 use Rattle.theory.specs.Sheet.{number, ourSheet}
 use Rattle.theory.specs.StateGraph.{systemOf}
-use Rattle.theory.proofs.Below.{bit-le, tab-length}
+use Rattle.theory.proofs.Below.{bit-le, tab-length, is-table}
 use Rattle.theory.proofs.Levels.{mark-marks}
 use Rattle.theory.proofs.Height.{height-below}
 use Rattle.limits.specs.Limits.{maxStates}
@@ -111,7 +111,13 @@ module _ {m : Model} {heights distances : List ℕ} (ok : Lawful m) (known : Sur
       ap (λ (n : ℕ). tab n (found heights distances)) (e ∙ known .heights .long)
       ∙ tab-same (states m) (found heights distances) (number (systemOfModel m)) found-number
 
-  -- all states
+  -- all states, in a slice
+  pub all-stored : (sheet : List ℕ) (p : ℕ) → length sheet ≡ length heights → length heights ≤ p
+      → ((k : ℕ) → k < p → getD sheet k 0 ≡ found heights distances k) → sheet ≡ ourSheet (systemOfModel m)
+  all-stored sheet p e l h =
+      is-table sheet (length heights) (found heights distances) e (λ k b. h k (omega arith)) ∙ found-sheet (length heights) refl
+
+  -- and spelled
   pub all-laid : {o o₁ o₂ : List ℕ} {at r p : ℕ} → Lays o o₁ 0 at (spell 1) → Lays o₁ o₂ at r (spellAll (tab p (found heights distances))) → p ≡ length heights
       → Lays o o₂ 0 r (spellAll (1 ∷ ourSheet (systemOfModel m)))
   all-laid {p = p} a b e =

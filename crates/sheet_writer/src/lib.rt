@@ -1,9 +1,10 @@
-// Our sheet, spelled in shortest numbers from what is known of the states of a model.
+// Our sheet from what is known of the states of a model: its numbers in a slice, or spelled in shortest form.
 
 ghost use mathlib.Core.Path.{_≡_};
 ghost use mathlib.Core.List.{_∷_};
 ghost use Prim.Native.Nat.{_+_, _*_, _/_, _^_, _≤_, _<_};
 ghost use lib.Dec.{ltb};
+ghost use lib.ListN.{length};
 ghost use Rattle.limits.specs.Limits.{maxStates};
 ghost use Rattle.theory.specs.Below.{bit};
 ghost use Rattle.theory.specs.Sheet.{ourSheet};
@@ -14,6 +15,7 @@ ghost use Rattle.survey.specs.Surveyed.{Surveyed};
 ghost use Rattle.spelling.specs.Lays.{Lays};
 use limits::Word;
 use limits::cast::from_word;
+use limits::cast::to_word;
 use model::Model;
 
 fn flag(b: bool) -> usize
@@ -23,11 +25,23 @@ fn flag(b: bool) -> usize
 }
 
 // 01: "2h+i". The lowest bit beside a height tells of closed walks, so the mark takes its place; a state with a distance is marked.
-fn state_number(height: Word, distance: Word) -> u32
+fn state_number(height: Word, distance: Word) -> usize
     requires { ⌜ height < 2 * maxStates ⌝ }
-    ensures { λ r. ⌜ (r ≡ height / 2 * 2 + bit (ltb 0 distance)) × (r < 2 ^ 21) ⌝ }
+    ensures { λ r. ⌜ (r ≡ height / 2 * 2 + bit (ltb 0 distance)) × (r < 2 * maxStates) ⌝ }
 {
-    (from_word(height / 2 * 2) + flag(0 < distance)) as u32
+    from_word(height / 2 * 2) + flag(0 < distance)
+}
+
+// The numbers of our sheet after the first. Contracts name the model; no code reads it here.
+pub fn fill_sheet(m: Model, heights: &[Word], distances: &[Word], sheet: &mut [Word])
+    requires { ⌜ Lawful m × Surveyed m (now heights) (now distances) × (length (now sheet) ≡ length (now heights)) ⌝ }
+    ensures { λ _. ⌜ now (sheet .exit) ≡ ourSheet (systemOfModel m) ⌝ }
+{
+    let mut p = 0;
+    while p < heights.len() {
+        sheet[p] = to_word(state_number(heights[p], distances[p]));
+        p += 1;
+    }
 }
 
 // Our sheet from what is known of the states: 1, then a number for each. With no output it measures.
@@ -38,7 +52,7 @@ pub fn put_sheet(m: Model, heights: &[Word], distances: &[Word], out: &mut [u8])
     let mut end = spelling::put(out, 0, 1);
     let mut p = 0;
     while p < heights.len() {
-        end = spelling::put(out, end, state_number(heights[p], distances[p]));
+        end = spelling::put(out, end, state_number(heights[p], distances[p]) as u32);
         p += 1;
     }
     end

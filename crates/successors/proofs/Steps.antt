@@ -39,7 +39,7 @@ pub record Entered (m : Model) (l j q : ℕ) : Type 0 where
   pub is : q ≡ stateOf m l j
   pub allowed : allowedState (automatonOf m) (m .locations) q ≡ true
 
-bit-one : (b : Bool) → (bit b ≡ 1) ↔ (b ≡ true)
+pub bit-one : (b : Bool) → (bit b ≡ 1) ↔ (b ≡ true)
 bit-one true = (λ e. refl, λ e. refl)
 bit-one false = (λ e. absurd (omega arith), λ e. absurd (false≢true e))
 

@@ -2,11 +2,13 @@
 use mathlib.Core.Path.{_≡_, refl, sym, ap, ap₂, subst, _∙_}
 use mathlib.Core.Bool.{Bool, true, false, not, cond, _&&_, _||_, true≢false, false≢true, or-false, or-assoc, and-true, and-assoc}
 use mathlib.Core.Logic.{_↔_, _⊎_, inl, inr, ⊎-elim}
+use mathlib.Core.List.{List}
 use Prim.Native.Nat.{ℕ, zero, suc, _+_, _≤_, _<_, max, zero-le, suc-le-suc}
 use native.Mathlib.Omega.{arith}
 use native.Mathlib.Nat.{le-antisymm}
-use native.Mathlib.Decide.{decLe, decLt}
-use lib.ListN.{length, getD}
+use native.Mathlib.Decide.{ℕ-discrete, decLe, decLt}
+use lib.ListN.{length, getD, set}
+use lib.Seq.{ext-getD, getD-set-same, getD-set-other}
 use lib.Dec.{leb, ltb, eqb}
 use borrow.Author.Tests.{not-true, leb-true, le-leb, ltb-true, lt-ltb, eqb-true, eq-eqb}
 use Rattle.theory.specs.Below.{imp, bit, any, all, count, Counted, least, top, tab}
@@ -238,6 +240,20 @@ tab-at zero f i h = absurd (omega arith)
 tab-at (suc n) f zero h = refl
 tab-at (suc n) f (suc i) h = tab-at n (λ k. f (suc k)) i (omega arith)
 
+pub is-table : (l : List ℕ) (n : ℕ) (f : ℕ → ℕ) → length l ≡ n → ((k : ℕ) → k < n → getD l k 0 ≡ f k) → l ≡ tab n f
+is-table l n f e h =
+    ext-getD 0 l (tab n f) (e ∙ sym (tab-length n f))
+    (λ i b. let c = rw e at b in h i c ∙ sym (tab-at n f i c))
+
+-- one number more of a table that is stored place by place
+pub stored-next : (f : ℕ → ℕ) (l : List ℕ) (p x : ℕ) → p < length l → x ≡ f p → ((k : ℕ) → k < p → getD l k 0 ≡ f k)
+    → (k : ℕ) → k < p + 1 → getD (set l p x) k 0 ≡ f k
+stored-next f l p x b e h k c = by (ℕ-discrete k p)
+  where
+    by : Dec (k ≡ p) → getD (set l p x) k 0 ≡ f k
+    by (yes z) = rw z (getD-set-same l p x 0 b ∙ e)
+    by (no z) = getD-set-other l p k x 0 z ∙ h k (omega arith)
+
 -- a function that is 0 from n on is its table
 pub tab-all : (n : ℕ) (f : ℕ → ℕ) → ((i : ℕ) → n ≤ i → f i ≡ 0) → (i : ℕ) → getD (tab n f) i 0 ≡ f i
 unfolding tab
@@ -261,6 +277,11 @@ pub count-suc : (n : ℕ) (f : ℕ → Bool) → count (suc n) f ≡ count n f +
 unfolding count
 count-suc zero f = omega arith
 count-suc (suc n) f = omega (arith, count-suc n (λ i. f (suc i)))
+
+pub top-suc : (n : ℕ) (f : ℕ → ℕ) → top (suc n) f ≡ max (top n f) (f n)
+unfolding top
+top-suc zero f = omega arith
+top-suc (suc n) f = omega (arith, top-suc n (λ i. f (suc i)))
 
 -- a test of a property counts those that have it, and there is one such count
 pub counted : (P : ℕ → Type 0) (f : ℕ → Bool) (n : ℕ) → ((i : ℕ) → i < n → (f i ≡ true) ↔ P i) → Counted P n (count n f)

@@ -65,6 +65,8 @@ pub mod StateMarked
 
 -- Rows of successors in lists.
 pub mod Rows
+-- Chains through slots.
+pub mod Chains
 -- Rounds find the distances; the marks and our trail's steps from them.
 pub mod Levels
 -- The nodes of the shortest walks, and the least of these walks; closed walks by the same search.

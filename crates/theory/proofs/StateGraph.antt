@@ -16,7 +16,7 @@ use Rattle.theory.specs.Automaton.{Automaton, Edge, Capped, Upto}
 use Rattle.theory.specs.Region.{Clock, clock, Region, Fits, Attains, Lawful, regions, face, shares, successor}
 use Rattle.theory.specs.RegionGraph.{Allowed, Enabled, Flow, after, origin, allowed, guardHolds}
 use Rattle.theory.specs.StateGraph.{Within, regionsOf, regionCount, stateCount, locationOf, regionOf, sameRegion, indexIn, numberOf, allowedState, stateAt, noEdge, edgeAt, timeFrom, jumpFrom, stepFrom, beside, flowTest, systemOf, labelledOf}
-use Rattle.theory.proofs.Below.{and↔, eqb↔, ltb↔, test↔, any↔, either}
+use Rattle.theory.proofs.Below.{and↔, eqb↔, ltb↔, test↔, any↔, either, cond-ind}
 use Rattle.theory.proofs.Enumeration.{regions-law, region-at, index-once}
 use Rattle.theory.proofs.Region.{lawful-law, allowed-law, guard-law}
 use Rattle.theory.proofs.Stay.{allowed-point}
@@ -180,6 +180,17 @@ module _ (m : Automaton) where
           let l = location-below p (allowed-state-law p .0 t .0) in
           (is-time p t a ∙ sym n, rw n (number-below locations (locationOf m p) l (a .region))),
     )
+
+    -- where there is none it gives the number of states
+    pub time-most : (p : ℕ) → timeFrom m locations p ≤ stateCount m locations
+    unfolding timeFrom stateAt
+    time-most p =
+        let most : ℕ → Type 0 = λ q. q ≤ stateCount m locations in
+        cond-ind most (allowedState m locations p) (λ t.
+        let l = location-below p (allowed-state-law p .0 t .0) in
+        cond-ind most (allowed m (locationOf m p) (successor (regionOf m p)))
+        (λ a. omega (arith, number-below locations (locationOf m p) l (allowed-law m (locationOf m p) (successor (regionOf m p)) .0 a .region)))
+        (λ _. omega arith)) (λ _. omega arith)
 
     pub edge-drawn : (l : List Edge) (e : ℕ) → e < length l → List·Memᴰ (getD l e noEdge) l
     edge-drawn [] e h = absurd (omega arith)

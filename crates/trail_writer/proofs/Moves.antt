@@ -21,7 +21,7 @@ use Rattle.theory.specs.Marked.{step, unsafe}
 use Rattle.theory.specs.Trail.{Trail, trailStates}
 use Rattle.theory.specs.ClosedWalk.{closedWalk, closedWalkSteps}
 use Rattle.theory.specs.Labels.{LabelledSystem, leads, leastLabel, labelsAlong, closedWalkLabels}
-use Rattle.theory.specs.Replay.{Move, touch-to, ourMove, movesAlong, ourMoves}
+use Rattle.theory.specs.Replay.{Move, flow-by, face-to, touch-to, ourMove, movesAlong, ourMoves}
 use Rattle.theory.proofs.Below.{cond-ind, least-le, and-right, false-unless-true}
 use Rattle.theory.proofs.Enumeration.{lawful-length, region-at}
 use Rattle.theory.proofs.Marked.{step-inside, unsafe-is}
@@ -132,13 +132,13 @@ module _ (m : Model) (ok : Lawful m) where
   -- ---- a move, by its kind
 
   module _ (p q : ℕ) where
-    pub flow-bytes : leastLabel P p q ≤ m .edges
-        → spellAll (labelNumbers (leastLabel P p q)) ≡ spellAll (moveNumbers (automatonOf m) (ourMove P p q))
-    unfolding moveNumbers ourMove
-    flow-bytes h = rw (lt-ltb (leastLabel P p q) (P .labels) (omega (arith, labels-are m))) refl
+    pub flow-is : (x : ℕ) → x ≡ leastLabel P p q → x ≤ m .edges → ourMove P p q ≡ flow-by x
+    unfolding ourMove
+    flow-is x e h = rw (e, lt-ltb (leastLabel P p q) (P .labels) (omega (arith, labels-are m))) refl
 
     pub flow-as : (x : ℕ) → x ≡ leastLabel P p q → x ≤ m .edges → spellAll (labelNumbers x) ≡ spellAll (moveNumbers (automatonOf m) (ourMove P p q))
-    flow-as x e h = ap (λ (k : ℕ). spellAll (labelNumbers k)) e ∙ flow-bytes (omega arith)
+    unfolding moveNumbers
+    flow-as x e h = rw (flow-is x e h) refl
 
     pub face-is : beside (automatonOf m) (m .locations) face p q ≡ Y .face p q
     unfolding systemOf
@@ -148,10 +148,14 @@ module _ (m : Model) (ok : Lawful m) where
       none-leads : ltb (leastLabel P p q) (P .labels) ≡ false
       none-leads = le-ltb (leastLabel P p q) (P .labels) (omega (arith, labels-are m))
 
+      pub face-to-is : Y .face p q ≡ true → ourMove P p q ≡ face-to q
+      unfolding ourMove labelledOf
+      face-to-is f = rw (none-leads, f) refl
+
       pub face-bytes : Y .face p q ≡ true
           → spell 2 ++ spellAll (key (regionOf (automatonOf m) q)) ≡ spellAll (moveNumbers (automatonOf m) (ourMove P p q))
-      unfolding moveNumbers ourMove labelledOf spellAll
-      face-bytes f = rw (none-leads, f) refl
+      unfolding moveNumbers spellAll
+      face-bytes f = rw (face-to-is f) refl
 
       pub touch-is : Y .face p q ≡ false → ourMove P p q ≡ touch-to q (closedWalkLabels P q)
       unfolding ourMove labelledOf
@@ -165,6 +169,12 @@ module _ (m : Model) (ok : Lawful m) where
           and-right (Y .near p q) (onClosedWalk Y q) (rw (n, f) at t)
 
   -- ---- moves one after the other
+
+  pub leads-next : {p q : ℕ} {l : List ℕ} → LeadsThrough m p (q ∷ l) → (step Y p q ≡ true) × LeadsThrough m q l
+  leads-next {p} {q} {l} w = by (w .end) (w .walk)
+    where
+      by : (s : ℕ) → Walk (step Y) p s (q ∷ l) → (step Y p q ≡ true) × LeadsThrough m q l
+      by s (move e v) = (e, record { below = omega (arith, step-inside Y (system-laws m ok) p q e .1, size-states m); end = s; walk = v })
 
   abbrev bytesFrom : ℕ → List ℕ → List ℕ
   bytesFrom p l = spellAll (movesNumbers (automatonOf m) (movesAlong P p l))
@@ -194,13 +204,7 @@ module _ (m : Model) (ok : Lawful m) where
         split = drop-cons path i 0 h
 
         next : (step Y p (getD path i 0) ≡ true) × LeadsThrough m (getD path i 0) (drop (suc i) path)
-        next = first-step (subst (LeadsThrough m p) split (G .leads))
-          where
-            first-step : LeadsThrough m p (getD path i 0 ∷ drop (suc i) path) → (step Y p (getD path i 0) ≡ true) × LeadsThrough m (getD path i 0) (drop (suc i) path)
-            first-step w = by (w .end) (w .walk)
-              where
-                by : (s : ℕ) → Walk (step Y) p s (getD path i 0 ∷ drop (suc i) path) → (step Y p (getD path i 0) ≡ true) × LeadsThrough m (getD path i 0) (drop (suc i) path)
-                by s (move e v) = (e, record { below = omega (arith, step-inside Y (system-laws m ok) p (getD path i 0) e .1, size-states m); end = s; walk = v })
+        next = leads-next (subst (LeadsThrough m p) split (G .leads))
 
         pub going-step : step Y p (getD path i 0) ≡ true
         going-step = next .0

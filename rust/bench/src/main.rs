@@ -16,7 +16,7 @@ const MODELS: u64 = 8;
 const REPEATS: usize = 15;
 
 /// The calls that are timed, in the order of the columns.
-const CALLS: [&str; 4] = ["judge", "marks", "evidence", "check"];
+const CALLS: [&str; 6] = ["judge", "margin", "harm", "marks", "evidence", "check"];
 
 /// Ours, then the second checker's, for each call.
 type Times = [[Duration; 2]; CALLS.len()];
@@ -54,36 +54,40 @@ fn both<T, U>(mut ours: impl FnMut() -> T, mut theirs: impl FnMut() -> U) -> [Du
 }
 
 struct Buffers {
-    scratch: [Vec<drift::Word>; 4],
+    scratch: drift::Buffers,
     output: Vec<u8>,
 }
 
 impl Buffers {
     fn new(states: usize) -> Buffers {
         Buffers {
-            scratch: std::array::from_fn(|_| vec![0; states]),
+            scratch: drift::Buffers::new(states),
             output: vec![0; second::program::OUTPUT],
         }
     }
 
     fn judge(&mut self, model: &[u8]) -> drift::Judgement {
-        let [a, b, c, d] = &mut self.scratch;
-        drift::judge(model, [a, b, c, d]).expect("an accepted model")
+        drift::judge(model, self.scratch.lend()).expect("an accepted model")
+    }
+
+    fn margin(&mut self, model: &[u8]) -> drift::SheetMargin {
+        drift::sheet_margin(model, self.scratch.lend()).expect("an accepted model")
+    }
+
+    fn harm(&mut self, model: &[u8]) -> drift::Harm {
+        drift::harm(model, self.scratch.lend()).expect("an accepted model")
     }
 
     fn marks(&mut self, model: &[u8]) -> usize {
-        let [a, b, c, d] = &mut self.scratch;
-        drift::marks(model, [a, b, c, d], &mut self.output).expect("an accepted model")
+        drift::marks(model, self.scratch.lend(), &mut self.output).expect("an accepted model")
     }
 
     fn evidence(&mut self, model: &[u8]) -> drift::Written {
-        let [a, b, c, d] = &mut self.scratch;
-        drift::write_evidence(model, [a, b, c, d], &mut self.output).expect("it fits")
+        drift::write_evidence(model, self.scratch.lend(), &mut self.output).expect("it fits")
     }
 
     fn check(&mut self, model: &[u8], evidence: &[u8]) -> drift::Kind {
-        let [a, b, c, d] = &mut self.scratch;
-        drift::check_evidence(model, evidence, [a, b, c, d]).expect("passing evidence")
+        drift::check_evidence(model, evidence, self.scratch.lend()).expect("passing evidence")
     }
 }
 
@@ -189,6 +193,11 @@ fn times(buffers: &mut Buffers, model: &[u8], states: usize) -> Times {
     let mut output = vec![0; second::program::OUTPUT];
     [
         both(|| buffers.judge(model), || second::judge(model, lengths)),
+        both(
+            || buffers.margin(model),
+            || second::sheet_margin(model, lengths),
+        ),
+        both(|| buffers.harm(model), || second::harm(model, lengths)),
         both(
             || buffers.marks(model),
             || second::marks(model, lengths, &mut output),

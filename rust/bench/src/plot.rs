@@ -12,7 +12,9 @@ const MARGIN: f64 = 60.0;
 const STATES: [f64; 2] = [100.0, 20_000.0];
 const MICROSECONDS: [f64; 2] = [3.0, 3_000.0];
 
-const COLOURS: [&str; CALLS.len()] = ["#1f77b4", "#2ca02c", "#d62728", "#9467bd"];
+const COLOURS: [&str; CALLS.len()] = [
+    "#1f77b4", "#ff7f0e", "#8c564b", "#2ca02c", "#d62728", "#9467bd",
+];
 
 /// A size with the mean times of its class.
 pub type Point = (usize, Means);

@@ -1,7 +1,10 @@
 //! One call of each checker, with answers and memory compared.
 
 use crate::memory::{Lent, Output};
+use second::harm::Bound;
 use second::random::Random;
+use second::{Harm, SheetMargin};
+use std::fmt::Debug;
 
 /// The number of states, where a call gets past refusal 8: the scratch is
 /// left at zero there, whatever the answer is.
@@ -11,22 +14,60 @@ fn past_eight(model: &[u8], lengths: [usize; 4]) -> Option<usize> {
     enough.then_some(states)
 }
 
-/// 0 safe, 9 unsafe, or the refusal.
-pub fn judge_alike(model: &[u8], lent: &Lent) -> Result<usize, String> {
-    let wanted = second::judge(model, lent.lengths());
+/// A call of the library that is lent scratch alone. The copy tells whether
+/// it left the model, which it may only read.
+fn call<T>(
+    model: &[u8],
+    lent: &Lent,
+    call: fn(&[u8], drift::Scratch) -> Result<T, drift::Refusal>,
+) -> Result<Result<T, u8>, String> {
+    let copy = model.to_vec();
     let zeroed = past_eight(model, lent.lengths());
-    let got = lent
-        .run(|scratch| drift::judge(model, scratch), zeroed)
-        .map_err(|error| format!("judge: {error}"))?;
-    let fields = got.map(|g| (g.is_unsafe, g.states, g.count));
-    if wanted.map(|w| (w.is_unsafe, w.states, w.count)) != fields {
-        return Err(format!("judge: wanted {wanted:?}, got {got:?}"));
+    let got = lent.run(|scratch| call(&copy, scratch), zeroed)?;
+    if model != copy {
+        return Err("the model was changed".into());
     }
-    Ok(match wanted {
-        Ok(w) if w.is_unsafe => 9,
-        Ok(_) => 0,
-        Err(refusal) => refusal.into(),
-    })
+    Ok(got.map_err(drift::Refusal::number))
+}
+
+/// What both answer.
+fn same<T: PartialEq + Debug>(wanted: T, got: T) -> Result<T, String> {
+    if wanted == got {
+        Ok(wanted)
+    } else {
+        Err(format!("wanted {wanted:?}, got {got:?}"))
+    }
+}
+
+pub fn judge_alike(model: &[u8], lent: &Lent) -> Result<Result<second::Judgement, u8>, String> {
+    let got = call(model, lent, drift::judge)?;
+    let got = got.map(|got| second::Judgement {
+        is_unsafe: got.verdict == drift::Verdict::Unsafe,
+        states: got.states,
+        count: got.count,
+    });
+    same(second::judge(model, lent.lengths()), got)
+}
+
+pub fn sheet_margin_alike(model: &[u8], lent: &Lent) -> Result<Result<SheetMargin, u8>, String> {
+    let got = call(model, lent, drift::sheet_margin)?;
+    let got = got.map(|got| match got {
+        drift::SheetMargin::Safe { states, margin } => SheetMargin::Safe { states, margin },
+        drift::SheetMargin::Unsafe { states } => SheetMargin::Unsafe { states },
+    });
+    same(second::sheet_margin(model, lent.lengths()), got)
+}
+
+pub fn harm_alike(model: &[u8], lent: &Lent) -> Result<Result<Harm, u8>, String> {
+    let got = call(model, lent, drift::harm)?;
+    let got = got.map(|got| match got {
+        drift::Harm::Safe { states } => Harm::Safe { states },
+        drift::Harm::Within { states, base, rate } => Harm::Within {
+            states,
+            bound: Bound { base, rate },
+        },
+    });
+    same(second::harm(model, lent.lengths()), got)
 }
 
 pub fn marks_alike(
@@ -42,7 +83,8 @@ pub fn marks_alike(
     let call = |scratch: drift::Scratch| drift::marks(model, scratch, got_output.lent());
     let got = lent
         .run(call, zeroed)
-        .map_err(|error| format!("marks: {error}"))?;
+        .map_err(|error| format!("marks: {error}"))?
+        .map_err(drift::Refusal::number);
     if wanted != got {
         return Err(format!("marks: wanted {wanted:?}, got {got:?}"));
     }
@@ -68,8 +110,10 @@ pub fn write_alike(
         |scratch: drift::Scratch| drift::write_evidence(&model_copy, scratch, got_output.lent());
     let got = lent
         .run(call, zeroed)
-        .map_err(|error| format!("evidence: wanted {wanted:?}, {error}"))?;
-    if wanted != got.map(|written| (written.is_unsafe, written.bytes)) {
+        .map_err(|error| format!("evidence: wanted {wanted:?}, {error}"))?
+        .map_err(drift::Refusal::number);
+    let is_unsafe = |written: drift::Written| written.verdict == drift::Verdict::Unsafe;
+    if wanted != got.map(|written| (is_unsafe(written), written.bytes)) {
         return Err(format!("evidence: wanted {wanted:?}, got {got:?}"));
     }
     if wanted_output != got_output {
@@ -80,7 +124,7 @@ pub fn write_alike(
     }
     Ok(got.map(|written| {
         (
-            written.is_unsafe,
+            is_unsafe(written),
             got_output.lent()[..written.bytes].to_vec(),
         )
     }))
@@ -95,7 +139,8 @@ pub fn numbers_alike(bytes: &[u8]) -> Result<(), String> {
         let next = wanted.map_or(place, |(_, next)| next);
         // The second time at a refusal tells whether it stays.
         for _ in 0..if wanted.is_ok() { 1 } else { 2 } {
-            let got = (numbers.number(), numbers.place());
+            let number = numbers.number().map_err(drift::Refusal::number);
+            let got = (number, numbers.place());
             if (wanted.map(|(value, _)| value), next) != got {
                 return Err(format!("number at {place}: wanted {wanted:?}, got {got:?}"));
             }
@@ -118,7 +163,8 @@ pub fn check_alike(model: &[u8], evidence: &[u8], lent: &Lent) -> Result<Result<
             |scratch| drift::check_evidence(&model_copy, &evidence_copy, scratch),
             zeroed,
         )
-        .map_err(|error| format!("check: wanted {wanted:?}, {error}"))?;
+        .map_err(|error| format!("check: wanted {wanted:?}, {error}"))?
+        .map_err(drift::Refusal::number);
     let kind = got.map(|kind| match kind {
         drift::Kind::Sheet => 1,
         drift::Kind::Trail => 2,

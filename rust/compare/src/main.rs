@@ -11,7 +11,8 @@ mod pieces;
 mod rows;
 mod tally;
 
-use alike::{check_alike, judge_alike, marks_alike, numbers_alike, write_alike};
+use alike::{check_alike, marks_alike, numbers_alike, write_alike};
+use alike::{harm_alike, judge_alike, sheet_margin_alike};
 use memory::{length_near, rooms, Lent};
 use pieces::{pieces, Others};
 use rows::long;
@@ -96,16 +97,11 @@ fn agree(
     others: &mut Others,
     tally: &mut Tally,
 ) -> Result<(), Difference> {
-    let about_model = |what| Difference {
-        what,
-        evidence: None,
-    };
     let states = second::model::read_model(model)
         .map(|model| second::calls::states_of(&model))
         .unwrap_or(20);
+    answered(model, random, states, tally).map_err(about_model)?;
     let lent = Lent::near(random, states);
-    let judged = judge_alike(model, &lent).map_err(about_model)?;
-    tally.judged(judged);
     let room = length_near(random, states);
     marks_alike(model, &lent, room, random).map_err(about_model)?;
     let (asked, pieces) = pieces(model, random, others);
@@ -128,6 +124,30 @@ fn agree(
             })?,
         );
     }
+    Ok(())
+}
+
+fn about_model(what: String) -> Difference {
+    Difference {
+        what,
+        evidence: None,
+    }
+}
+
+/// The calls that are lent scratch alone, each with its own.
+fn answered(
+    model: &[u8],
+    random: &mut Random,
+    states: usize,
+    tally: &mut Tally,
+) -> Result<(), String> {
+    let named = |name: &'static str| move |what: String| format!("{name}: {what}");
+    let judged = judge_alike(model, &Lent::near(random, states)).map_err(named("judge"))?;
+    tally.judged(&judged);
+    let lent = Lent::near(random, states);
+    tally.margin(&sheet_margin_alike(model, &lent).map_err(named("margin"))?);
+    let lent = Lent::near(random, states);
+    tally.harm(&harm_alike(model, &lent).map_err(named("harm"))?);
     Ok(())
 }
 

@@ -1,6 +1,7 @@
 //! How often each answer came up.
 
-use second::refusal::{LAST, OUTPUT_TOO_SHORT};
+use second::refusal::{LAST, OUTPUT_TOO_SHORT, SCRATCH_TOO_SHORT};
+use second::{Harm, Judgement, SheetMargin};
 use std::collections::BTreeMap;
 use std::fmt;
 
@@ -32,10 +33,29 @@ impl fmt::Display for Written {
     }
 }
 
+/// The margins told, and the greatest.
+#[derive(Default)]
+struct Margins {
+    count: u64,
+    greatest: u32,
+}
+
+/// The harms told, and the greatest base and rate.
+#[derive(Default)]
+struct Harms {
+    count: u64,
+    base: u64,
+    rate: u64,
+}
+
 #[derive(Default)]
 pub struct Tally {
-    /// Safe, refused 1 to 8, unsafe.
-    judged: [u64; 10],
+    /// Safe and unsafe models.
+    judged: [u64; 2],
+    /// Models by the refusal.
+    unjudged: [u64; SCRATCH_TOO_SHORT as usize + 1],
+    margins: Margins,
+    harms: Harms,
     /// Sheets and trails written.
     written: [Written; 2],
     /// Calls of the writer by the refusal.
@@ -49,8 +69,26 @@ pub struct Tally {
 }
 
 impl Tally {
-    pub fn judged(&mut self, answer: usize) {
-        self.judged[answer] += 1;
+    pub fn judged(&mut self, answer: &Result<Judgement, u8>) {
+        match answer {
+            Ok(judgement) => self.judged[usize::from(judgement.is_unsafe)] += 1,
+            Err(refusal) => self.unjudged[usize::from(*refusal)] += 1,
+        }
+    }
+
+    pub fn margin(&mut self, answer: &Result<SheetMargin, u8>) {
+        if let Ok(SheetMargin::Safe { margin, .. }) = answer {
+            self.margins.count += 1;
+            self.margins.greatest = self.margins.greatest.max(*margin);
+        }
+    }
+
+    pub fn harm(&mut self, answer: &Result<Harm, u8>) {
+        if let Ok(Harm::Within { bound, .. }) = answer {
+            self.harms.count += 1;
+            self.harms.base = self.harms.base.max(bound.base);
+            self.harms.rate = self.harms.rate.max(bound.rate);
+        }
     }
 
     pub fn written(&mut self, answer: &Result<(bool, Vec<u8>), u8>) {
@@ -80,10 +118,18 @@ impl Tally {
 
 impl fmt::Display for Tally {
     fn fmt(&self, f: &mut fmt::Formatter) -> fmt::Result {
-        let [safe, refused @ .., is_unsafe] = &self.judged;
+        let [safe, is_unsafe] = &self.judged;
+        let refused = &self.unjudged[1..];
         writeln!(
             f,
             "models: safe {safe}, unsafe {is_unsafe}, refused 1 to 8 {refused:?}"
+        )?;
+        let Margins { count, greatest } = &self.margins;
+        writeln!(f, "margins: {count}, greatest {greatest}")?;
+        let Harms { count, base, rate } = &self.harms;
+        writeln!(
+            f,
+            "harms: {count}, greatest base {base}, greatest rate {rate}"
         )?;
         let [sheets, trails] = &self.written;
         writeln!(f, "sheets written: {sheets}")?;

@@ -1,7 +1,8 @@
-//! Judges the loop plan of document 01, writes its evidence, checks that, and
-//! reads it number by number. c/example.c does the same in C.
+//! Judges the loop plan of document 01, writes its evidence, checks that, reads
+//! it number by number, and asks how soon drift does harm. c/example.c does the
+//! same in C.
 
-use drift::{Kind, Numbers, Refusal, Scratch, Word};
+use drift::{Buffers, Harm, Numbers, Refusal, Verdict};
 
 /// Clean with perfect clocks, unsafe under drift.
 const PLAN: [u8; 46] = [
@@ -21,7 +22,7 @@ fn main() {
     match report() {
         Ok(lines) => print!("{lines}"),
         Err(refusal) => {
-            println!("refused {refusal}");
+            println!("refused {}: {refusal}", refusal.number());
             std::process::exit(1);
         }
     }
@@ -29,48 +30,39 @@ fn main() {
 
 /// What is found of the plan, a line for each call.
 pub fn report() -> Result<String, Refusal> {
-    let mut memory = [[0; STATES]; 4];
-    let judgement = drift::judge(&PLAN, lend(&mut memory))?;
+    let mut buffers = Buffers::new(STATES);
+    let judgement = drift::judge(&PLAN, buffers.lend())?;
     let mut out = [0; ROOM];
-    let written = drift::write_evidence(&PLAN, lend(&mut memory), &mut out)?;
+    let written = drift::write_evidence(&PLAN, buffers.lend(), &mut out)?;
     let evidence = &out[..written.bytes];
-    let kind = drift::check_evidence(&PLAN, evidence, lend(&mut memory))?;
+    let kind = drift::check_evidence(&PLAN, evidence, buffers.lend())?;
+    let harm = drift::harm(&PLAN, buffers.lend())?;
     Ok([
-        format!("verdict {}\n", verdict(judgement.is_unsafe)),
+        format!("verdict {}\n", judgement.verdict),
         format!("states {}\n", judgement.states),
-        format!("{} {}\n", counted(judgement.is_unsafe), judgement.count),
+        format!("{} {}\n", counted(judgement.verdict), judgement.count),
         format!("bytes {}\n", written.bytes),
-        format!("passes {}\n", name(kind)),
+        format!("passes {kind}\n"),
         format!("numbers{}\n", numbers(evidence)?),
+        harm_line(harm),
     ]
     .concat())
 }
 
-fn lend(memory: &mut [[Word; STATES]; 4]) -> Scratch<'_> {
-    memory.each_mut().map(|slice| &mut slice[..])
-}
-
-fn verdict(is_unsafe: bool) -> &'static str {
-    if is_unsafe {
-        "unsafe"
-    } else {
-        "safe"
-    }
-}
-
 /// What the count of a judgement counts.
-fn counted(is_unsafe: bool) -> &'static str {
-    if is_unsafe {
-        "steps"
-    } else {
-        "in"
+fn counted(verdict: Verdict) -> &'static str {
+    match verdict {
+        Verdict::Safe => "in",
+        Verdict::Unsafe => "steps",
     }
 }
 
-fn name(kind: Kind) -> &'static str {
-    match kind {
-        Kind::Sheet => "sheet",
-        Kind::Trail => "trail",
+fn harm_line(harm: Harm) -> String {
+    match harm {
+        Harm::Safe { .. } => String::new(),
+        Harm::Within { base, rate, .. } => {
+            format!("harm within {base} + {rate}q jumps\n")
+        }
     }
 }
 

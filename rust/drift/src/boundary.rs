@@ -1,34 +1,34 @@
 //! The C boundary, as c/drift.h describes it: each function of the static
 //! library on one line, and the fields of the words that they return.
 
-use crate::{Refusal, Scratch};
+use crate::{Refusal, Scratch, Verdict};
 use std::ops::Range;
 
 /// A number of the scratch.
 pub type Word = u16;
 
 /// Declares functions of the library and makes a safe function of each. What
-/// they take comes in this order: bytes to read, scratch, bytes to write,
+/// they take comes in this order: bytes to read, scratch, what is written to,
 /// plain numbers. A slice goes over as a pointer and a length.
 macro_rules! foreign {
     ($(fn $name:ident(
         $(read $read:ident),+
         $(, scratch [$($scratch:ident),+])?
-        $(, write $write:ident)*
-        $(, number $number:ident)*
+        $(, write $write:ident: $element:ty)?
+        $(, number $number:ident)?
     ) -> $answer:ty;)+) => {$(
         pub fn $name(
             $($read: &[u8],)+
             $([$($scratch),+]: Scratch,)?
-            $($write: &mut [u8],)*
-            $($number: usize,)*
+            $($write: &mut [$element],)?
+            $($number: usize,)?
         ) -> $answer {
             extern "C" {
                 fn $name(
                     $($read: *const u8, _: usize,)+
                     $($($scratch: *mut Word, _: usize,)+)?
-                    $($write: *mut u8, _: usize,)*
-                    $($number: usize,)*
+                    $($write: *mut $element, _: usize,)?
+                    $($number: usize,)?
                 ) -> $answer;
             }
             // SAFETY: c/drift.h declares the function so. Each pointer comes
@@ -39,8 +39,8 @@ macro_rules! foreign {
                 $name(
                     $($read.as_ptr(), $read.len(),)+
                     $($($scratch.as_mut_ptr(), $scratch.len(),)+)?
-                    $($write.as_mut_ptr(), $write.len(),)*
-                    $($number,)*
+                    $($write.as_mut_ptr(), $write.len(),)?
+                    $($number,)?
                 )
             }
         }
@@ -49,11 +49,13 @@ macro_rules! foreign {
 
 foreign! {
     fn drift_judge(read model, scratch [a, b, c, d]) -> u64;
-    fn drift_marks(read model, scratch [a, b, c, d], write out) -> u64;
+    fn drift_marks(read model, scratch [a, b, c, d], write out: u8) -> u64;
     fn drift_check_evidence(read model, read evidence, scratch [a, b, c, d]) -> u64;
-    fn drift_write_evidence(read model, scratch [a, b, c, d], write out) -> u64;
+    fn drift_write_evidence(read model, scratch [a, b, c, d], write out: u8) -> u64;
     fn drift_next_number(read bytes, number at) -> u64;
     fn drift_margin(read model) -> u64;
+    fn drift_sheet_margin(read model, scratch [a, b, c, d]) -> u64;
+    fn drift_harm(read model, scratch [a, b, c, d], write out: u64) -> u64;
 }
 
 // The fields of an answer, by their bits.
@@ -86,6 +88,17 @@ pub fn field(answer: u64, bits: Range<u32>) -> u64 {
 pub fn accepted(answer: u64) -> Result<u64, Refusal> {
     match field(answer, NUMBER) {
         0 => Ok(answer),
-        number => Err(number as Refusal),
+        number => Err(Refusal::try_from(number as u8).expect("no other is proved possible")),
     }
+}
+
+pub fn verdict_of(answer: u64) -> Verdict {
+    match field(answer, VERDICT) {
+        0 => Verdict::Safe,
+        _ => Verdict::Unsafe,
+    }
+}
+
+pub fn states_of(answer: u64) -> usize {
+    field(answer, STATES) as usize
 }

@@ -4,24 +4,40 @@
 //! says; the proofs are in the crate `drift` under crates/.
 
 mod boundary;
+mod buffers;
 mod numbers;
+mod refusal;
 #[cfg(test)]
 mod tests;
 
 pub use boundary::Word;
+pub use buffers::{Buffers, Scratch, MOST_STATES};
 pub use numbers::{next_number, Numbers};
+pub use refusal::{NoRefusal, Refusal};
 
 use boundary::*;
+use std::fmt;
 
-/// The number of a refusal, 1 to 14.
-pub type Refusal = u8;
+#[derive(Clone, Copy, Debug, PartialEq, Eq)]
+pub enum Verdict {
+    /// Some drift above 0 is harmless for ever.
+    Safe,
+    /// Every drift above 0 does harm in the end.
+    Unsafe,
+}
 
-/// Four slices of numbers, lent for a call.
-pub type Scratch<'a> = [&'a mut [Word]; 4];
+impl fmt::Display for Verdict {
+    fn fmt(&self, formatter: &mut fmt::Formatter) -> fmt::Result {
+        formatter.write_str(match self {
+            Verdict::Safe => "safe",
+            Verdict::Unsafe => "unsafe",
+        })
+    }
+}
 
 #[derive(Clone, Copy, Debug, PartialEq, Eq)]
 pub struct Judgement {
-    pub is_unsafe: bool,
+    pub verdict: Verdict,
     /// The number of states (S).
     pub states: usize,
     /// Marked states if safe, steps of our trail if unsafe.
@@ -31,8 +47,8 @@ pub struct Judgement {
 /// The evidence at the front of an output.
 #[derive(Clone, Copy, Debug, PartialEq, Eq)]
 pub struct Written {
-    /// A trail if so, else a sheet.
-    pub is_unsafe: bool,
+    /// A sheet where safe, a trail where unsafe.
+    pub verdict: Verdict,
     /// How many bytes it takes.
     pub bytes: usize,
 }
@@ -46,6 +62,15 @@ pub enum Kind {
     Trail,
 }
 
+impl fmt::Display for Kind {
+    fn fmt(&self, formatter: &mut fmt::Formatter) -> fmt::Result {
+        formatter.write_str(match self {
+            Kind::Sheet => "sheet",
+            Kind::Trail => "trail",
+        })
+    }
+}
+
 /// How slight a drift is harmless for ever if a plan is safe.
 #[derive(Clone, Copy, Debug, PartialEq, Eq)]
 pub struct Tolerance {
@@ -55,12 +80,31 @@ pub struct Tolerance {
     pub margin: u32,
 }
 
+/// How slight a drift is harmless for ever, by our sheet.
+#[derive(Clone, Copy, Debug, PartialEq, Eq)]
+pub enum SheetMargin {
+    /// Every drift below 1/margin of a unit is.
+    Safe { states: usize, margin: u32 },
+    /// None is.
+    Unsafe { states: usize },
+}
+
+/// Within how many jumps drift does harm, by our trail.
+#[derive(Clone, Copy, Debug, PartialEq, Eq)]
+pub enum Harm {
+    /// There is no trail.
+    Safe { states: usize },
+    /// For drift e/D and every q with D <= q*e, some run of at most
+    /// base + rate*q jumps enters a forbidden location.
+    Within { states: usize, base: u64, rate: u64 },
+}
+
 /// The verdict on a plan.
 pub fn judge(model: &[u8], scratch: Scratch) -> Result<Judgement, Refusal> {
     let answer = accepted(drift_judge(model, scratch))?;
     Ok(Judgement {
-        is_unsafe: field(answer, VERDICT) == 1,
-        states: field(answer, STATES) as usize,
+        verdict: verdict_of(answer),
+        states: states_of(answer),
         count: field(answer, COUNT) as usize,
     })
 }
@@ -68,8 +112,7 @@ pub fn judge(model: &[u8], scratch: Scratch) -> Result<Judgement, Refusal> {
 /// A mark of 1 or 0 for each state, at the front of the output; the number
 /// of states.
 pub fn marks(model: &[u8], scratch: Scratch, out: &mut [u8]) -> Result<usize, Refusal> {
-    let answer = accepted(drift_marks(model, scratch, out))?;
-    Ok(field(answer, STATES) as usize)
+    accepted(drift_marks(model, scratch, out)).map(states_of)
 }
 
 /// Whether evidence from anywhere passes for a plan, and of which kind it is.
@@ -89,16 +132,41 @@ pub fn check_evidence(model: &[u8], evidence: &[u8], scratch: Scratch) -> Result
 pub fn write_evidence(model: &[u8], scratch: Scratch, out: &mut [u8]) -> Result<Written, Refusal> {
     let answer = accepted(drift_write_evidence(model, scratch, out))?;
     Ok(Written {
-        is_unsafe: field(answer, VERDICT) == 1,
+        verdict: verdict_of(answer),
         bytes: field(answer, WRITTEN) as usize,
     })
 }
 
-/// The number of states of a plan and its margin; no scratch is needed.
+/// The number of states of a plan and its margin by the drawing alone; no
+/// scratch is needed. That of the sheet is far sharper.
 pub fn margin(model: &[u8]) -> Result<Tolerance, Refusal> {
     let answer = accepted(drift_margin(model))?;
     Ok(Tolerance {
-        states: field(answer, STATES) as usize,
+        states: states_of(answer),
         margin: field(answer, MARGIN) as u32,
+    })
+}
+
+/// The margin of a safe plan by our sheet.
+pub fn sheet_margin(model: &[u8], scratch: Scratch) -> Result<SheetMargin, Refusal> {
+    let answer = accepted(drift_sheet_margin(model, scratch))?;
+    let states = states_of(answer);
+    Ok(match verdict_of(answer) {
+        Verdict::Safe => SheetMargin::Safe {
+            states,
+            margin: field(answer, MARGIN) as u32,
+        },
+        Verdict::Unsafe => SheetMargin::Unsafe { states },
+    })
+}
+
+/// The jumps within which drift does harm in an unsafe plan.
+pub fn harm(model: &[u8], scratch: Scratch) -> Result<Harm, Refusal> {
+    let mut out = [0; 2];
+    let answer = accepted(drift_harm(model, scratch, &mut out))?;
+    let (states, [base, rate]) = (states_of(answer), out);
+    Ok(match verdict_of(answer) {
+        Verdict::Safe => Harm::Safe { states },
+        Verdict::Unsafe => Harm::Within { states, base, rate },
     })
 }

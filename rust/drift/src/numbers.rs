@@ -48,6 +48,7 @@ impl<'a> Numbers<'a> {
 #[cfg(test)]
 mod tests {
     use super::*;
+    use Refusal::{EndsTooSoon, NumberTooLong};
 
     #[test]
     fn padding_is_allowed() {
@@ -59,12 +60,12 @@ mod tests {
 
     #[test]
     fn refusals() {
-        assert_eq!(next_number(&[], 0), Err(1));
-        assert_eq!(next_number(&[5], 1), Err(1));
-        assert_eq!(next_number(&[5], usize::MAX), Err(1));
-        assert_eq!(next_number(&[133, 128], 0), Err(1));
-        assert_eq!(next_number(&[133, 128, 128], 0), Err(2));
-        assert_eq!(next_number(&[133, 128, 128, 0], 0), Err(2));
+        assert_eq!(next_number(&[], 0), Err(EndsTooSoon));
+        assert_eq!(next_number(&[5], 1), Err(EndsTooSoon));
+        assert_eq!(next_number(&[5], usize::MAX), Err(EndsTooSoon));
+        assert_eq!(next_number(&[133, 128], 0), Err(EndsTooSoon));
+        assert_eq!(next_number(&[133, 128, 128], 0), Err(NumberTooLong));
+        assert_eq!(next_number(&[133, 128, 128, 0], 0), Err(NumberTooLong));
     }
 
     #[test]
@@ -81,9 +82,9 @@ mod tests {
     #[test]
     fn a_refusal_leaves_the_reader_in_place() {
         for (rest, refusal) in [
-            (&[] as &[u8], 1),
-            (&[128, 128], 1),
-            (&[128, 128, 128, 0], 2),
+            (&[] as &[u8], EndsTooSoon),
+            (&[128, 128], EndsTooSoon),
+            (&[128, 128, 128, 0], NumberTooLong),
         ] {
             let bytes = [&[7], rest].concat();
             let mut numbers = Numbers::new(&bytes);

@@ -1,6 +1,7 @@
 //! The calls on plans of document 01's bench, with what they leave.
 
 use super::*;
+use Refusal::*;
 
 /// The loop plan: safe with perfect clocks only.
 const LOOP: [u8; 46] = [
@@ -25,6 +26,9 @@ const ROW_SHEET: [u8; 4] = [1, 5, 3, 1];
 
 /// The same with a forbidden location.
 const FORBIDDEN: [u8; 8] = [1, 1, 1, 1, 0, 0, 1, 0];
+
+/// A loop that resets nothing.
+const UNRESET: [u8; 13] = [1, 1, 1, 1, 1, 0, 0, 0, 0, 0, 0, 0, 1];
 
 /// What lent memory holds beforehand.
 const DIRT: u8 = 0xa5;
@@ -58,14 +62,14 @@ fn write(model: &[u8], length: usize, room: usize) -> Left {
 }
 
 /// The evidence is written where there is room for it, and 9 comes otherwise.
-fn writes(model: &[u8], states: usize, is_unsafe: bool, evidence: &[u8]) {
+fn writes(model: &[u8], states: usize, verdict: Verdict, evidence: &[u8]) {
     let bytes = evidence.len();
     for room in 0..bytes + SPARE {
         let (answer, out) = if room < bytes {
-            (Err(9), vec![DIRT; room])
+            (Err(OutputTooShort), vec![DIRT; room])
         } else {
             let rest = vec![DIRT; room - bytes];
-            (Ok(Written { is_unsafe, bytes }), [evidence, &rest].concat())
+            (Ok(Written { verdict, bytes }), [evidence, &rest].concat())
         };
         assert_eq!(write(model, states + SPARE, room), (answer, out, states));
     }
@@ -75,7 +79,7 @@ fn writes(model: &[u8], states: usize, is_unsafe: bool, evidence: &[u8]) {
 #[test]
 fn fields_of_an_answer() {
     let answer = 14 + (1 << 8) + (0xff_ffff << 16) + (7 << 40);
-    assert_eq!(accepted(answer), Err(14));
+    assert_eq!(accepted(answer), Err(EndsOrdinary));
     let fields = [VERDICT, STATES, COUNT].map(|bits| field(answer, bits));
     assert_eq!(fields, [1, 0xff_ffff, 7]);
     let whole = [VERDICT, STATES, COUNT, WRITTEN, VALUE, NEXT].map(|bits| field(u64::MAX, bits));
@@ -85,13 +89,13 @@ fn fields_of_an_answer() {
 
 #[test]
 fn a_sheet_is_written() {
-    writes(&ROW, 3, false, &ROW_SHEET);
+    writes(&ROW, 3, Verdict::Safe, &ROW_SHEET);
 }
 
 #[test]
 fn a_trail_is_written() {
-    writes(&FORBIDDEN, 3, true, &[2, 0]);
-    writes(&LOOP, LOOP_STATES, true, &LOOP_TRAIL);
+    writes(&FORBIDDEN, 3, Verdict::Unsafe, &[2, 0]);
+    writes(&LOOP, LOOP_STATES, Verdict::Unsafe, &LOOP_TRAIL);
 }
 
 #[test]
@@ -109,7 +113,7 @@ fn what_is_written_passes() {
             check_evidence(model, evidence, lend(&mut scratch)),
             Ok(kind)
         );
-        assert_eq!(written.is_unsafe, kind == Kind::Trail);
+        assert_eq!(written.verdict == Verdict::Unsafe, kind == Kind::Trail);
     }
 }
 
@@ -117,10 +121,10 @@ fn what_is_written_passes() {
 fn early_refusals_touch_nothing() {
     let untouched = vec![DIRT; 64];
     let cases = [
-        (&LOOP[..45], LOOP_STATES, 1),
-        (&[133, 128, 128], 0, 2),
-        (&[&LOOP[..], &[0]].concat(), LOOP_STATES, 6),
-        (&LOOP, LOOP_STATES - 1, 8),
+        (&LOOP[..45], LOOP_STATES, EndsTooSoon),
+        (&[133, 128, 128], 0, NumberTooLong),
+        (&[&LOOP[..], &[0]].concat(), LOOP_STATES, BytesRemain),
+        (&LOOP, LOOP_STATES - 1, ScratchTooShort),
     ];
     for (model, length, refusal) in cases {
         assert_eq!(
@@ -133,7 +137,7 @@ fn early_refusals_touch_nothing() {
 #[test]
 fn the_trail_carries_the_judged_steps() {
     let judgement = Judgement {
-        is_unsafe: true,
+        verdict: Verdict::Unsafe,
         states: LOOP_STATES,
         count: 8,
     };
@@ -151,6 +155,46 @@ fn margins() {
     let bound = |states, margin| Ok(Tolerance { states, margin });
     assert_eq!(margin(&LOOP), bound(LOOP_STATES, 40));
     assert_eq!(margin(&ROW), bound(3, 3));
-    assert_eq!(margin(&LOOP[..10]), Err(1));
-    assert_eq!(margin(&[1, 1, 1, 1, 1, 0, 0, 0, 0, 0, 0, 0, 1]), Err(7));
+    assert_eq!(margin(&LOOP[..10]), Err(EndsTooSoon));
+    assert_eq!(margin(&UNRESET), Err(ClockUnreset));
+}
+
+#[test]
+fn margins_of_sheets() {
+    let mut buffers = Buffers::new(LOOP_STATES);
+    let mut margin = |model: &[u8]| sheet_margin(model, buffers.lend());
+    let (states, margin_of_row) = (3, 2);
+    let safe = SheetMargin::Safe {
+        states,
+        margin: margin_of_row,
+    };
+    assert_eq!(margin(&ROW), Ok(safe));
+    assert_eq!(margin(&FORBIDDEN), Ok(SheetMargin::Unsafe { states }));
+    let states = LOOP_STATES;
+    assert_eq!(margin(&LOOP), Ok(SheetMargin::Unsafe { states }));
+    assert_eq!(margin(&UNRESET), Err(ClockUnreset));
+    let mut few = Buffers::new(LOOP_STATES - 1);
+    assert_eq!(sheet_margin(&LOOP, few.lend()), Err(ScratchTooShort));
+}
+
+/// The loop plan's trail has three jumps, a touch at top rank 2 and one at
+/// top rank 1, whose walks have two jumps each.
+#[test]
+fn jumps_before_harm() {
+    let mut buffers = Buffers::new(LOOP_STATES);
+    let mut within = |model: &[u8]| harm(model, buffers.lend());
+    assert_eq!(within(&ROW), Ok(Harm::Safe { states: 3 }));
+    let at_once = Harm::Within {
+        states: 3,
+        base: 0,
+        rate: 0,
+    };
+    assert_eq!(within(&FORBIDDEN), Ok(at_once));
+    let in_turns = Harm::Within {
+        states: LOOP_STATES,
+        base: 3 + 2 * 2 * 2 + 2 * 2,
+        rate: 9 * 2 + 4 * 2,
+    };
+    assert_eq!(within(&LOOP), Ok(in_turns));
+    assert_eq!(within(&UNRESET), Err(ClockUnreset));
 }

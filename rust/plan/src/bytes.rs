@@ -2,7 +2,7 @@
 
 use crate::flaw::{Flaw, Numbers};
 use crate::loops::unreset_loops;
-use crate::{Edge, Location, Plan};
+use crate::{Edge, Location, Plan, Units};
 use second::draft::{Draft, DraftEdge};
 use second::model::{Field, Model};
 use second::refusal::CLOCK_UNRESET;
@@ -91,6 +91,7 @@ fn plan_of(model: &Model, stays: &[Option<u8>]) -> Plan {
                     .collect(),
             })
             .collect(),
+        units: Units::default(),
     }
     .with_plain_names()
 }

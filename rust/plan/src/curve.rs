@@ -132,6 +132,17 @@ impl Curve {
             .collect()
     }
 
+    /// The curve as a track.
+    pub fn track(&self) -> Track {
+        let points = self.points();
+        let dots = points.iter().map(|&point| Frame::around(point, 0.0, 0.0));
+        let around = dots.reduce(|all, dot| all.joined(&dot));
+        Track {
+            around: around.expect("a curve has points"),
+            points,
+        }
+    }
+
     /// The part outside the frames that it comes from and goes to.
     pub fn outside(&self, from: &Frame, to: &Frame) -> Curve {
         let share = |at: usize| at as f64 / PIECES as f64;
@@ -163,6 +174,22 @@ impl Curve {
     pub fn arrival(&self) -> f64 {
         let last = self.0[3].minus(self.at(0.97));
         last.y.atan2(last.x)
+    }
+}
+
+/// The points along a curve, and the frame around them.
+#[derive(Clone, Debug)]
+pub struct Track {
+    points: Vec<Point>,
+    pub around: Frame,
+}
+
+impl Track {
+    pub fn runs_through(&self, frame: &Frame) -> bool {
+        self.around.overlaps(frame)
+            && self.points.windows(2).any(|pair| {
+                frame.contains(pair[0]) || frame.contains(pair[0].between(pair[1], 0.5))
+            })
     }
 }
 

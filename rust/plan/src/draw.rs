@@ -1,36 +1,39 @@
 //! A plan drawn as SVG, with a trail over it if there is one.
 
-use crate::curve::{Frame, Point};
+mod legend;
+mod lines;
+
+use crate::curve::Point;
 use crate::layout::{layout, Layout, Sketch, SketchEdge, ARROW};
 use crate::marks::{marks_of, numbers_words, Mark, Marks};
-use crate::svg::{Svg, LETTER, LINE};
+use crate::svg::*;
+use crate::tell::edge_name;
+use crate::tell::story::{loop_name, Story};
 use crate::trail::Step;
 use crate::Plan;
-
-const PLAIN: &str = "#333333";
-const FAINT: &str = "#777777";
-const START: &str = "#1b7a3d";
-const FORBIDDEN: &str = "#b3261e";
-const TRAIL: &str = "#1f5fbf";
-const LOOP: &str = "#d97706";
+use legend::{legend, loops_told, Entry};
+use lines::{bold, centred, column, extent, large, plain, Line};
 
 const MARGIN: f64 = 24.0;
 const PADDING: f64 = 7.0;
+const LABEL_PADDING: f64 = 3.0;
 /// Longer lines of a box are broken.
 const WIDEST: usize = 26;
+/// The room that heading and legend have at least: with the margins, a page of
+/// A4 shows it in letters of full size.
+const TEXT_WIDTH: f64 = 620.0;
 
-/// A line of text in a box.
-#[derive(Clone, Debug)]
-struct Words {
-    text: String,
-    colour: &'static str,
-    bold: bool,
+/// What stands above a drawing.
+#[derive(Clone, Copy, Debug, Default)]
+pub struct Heading<'a> {
+    pub title: &'a str,
+    /// The verdict in words, if the plan was judged.
+    pub verdict: Option<&'a str>,
 }
 
 /// Draws a plan; the steps of a trail, if any, are numbered where they go.
-pub fn draw(plan: &Plan, title: &str, trail: Option<&[Step]>) -> String {
-    let drawing = Drawing::new(plan, trail);
-    drawing.svg(title)
+pub fn draw(plan: &Plan, heading: &Heading, trail: Option<&[Step]>) -> String {
+    Drawing::new(plan, trail).svg(heading)
 }
 
 /// The layout of a plan's drawing, for a look at its boxes.
@@ -40,20 +43,21 @@ pub fn layout_of(plan: &Plan, trail: Option<&[Step]>) -> Layout {
 
 struct Drawing<'a> {
     plan: &'a Plan,
+    story: Story,
     marks: Marks,
-    has_trail: bool,
-    boxes: Vec<Vec<Words>>,
-    labels: Vec<Vec<Words>>,
+    boxes: Vec<Vec<Line>>,
+    labels: Vec<Vec<Line>>,
     layout: Layout,
 }
 
 impl<'a> Drawing<'a> {
     fn new(plan: &'a Plan, trail: Option<&[Step]>) -> Drawing<'a> {
-        let marks = marks_of(plan, trail.unwrap_or(&[]));
-        let boxes: Vec<Vec<Words>> = (0..plan.locations.len())
+        let story = Story::of(trail.unwrap_or(&[]));
+        let marks = marks_of(plan, &story);
+        let boxes: Vec<Vec<Line>> = (0..plan.locations.len())
             .map(|at| location_lines(plan, at, &marks.locations[at]))
             .collect();
-        let labels: Vec<Vec<Words>> = (0..plan.edges.len())
+        let labels: Vec<Vec<Line>> = (0..plan.edges.len())
             .map(|at| edge_lines(plan, at, &marks.edges[at]))
             .collect();
         let edges = plan.edges.iter().zip(&labels);
@@ -63,109 +67,73 @@ impl<'a> Drawing<'a> {
                 .map(|(edge, lines)| SketchEdge {
                     from: edge.from,
                     to: edge.to,
-                    label: size(lines, 3.0),
+                    label: size(lines, LABEL_PADDING),
                 })
                 .collect(),
         };
         let layout = layout(&sketch);
         Drawing {
             plan,
+            story,
             marks,
-            has_trail: trail.is_some(),
             boxes,
             labels,
             layout,
         }
     }
 
-    fn svg(mut self, title: &str) -> String {
-        let heading = self.heading(title);
-        let legend = self.legend();
-        let longest = heading
-            .iter()
-            .chain(&legend)
-            .map(|line| line.text.chars().count())
-            .max()
-            .unwrap_or(0);
+    fn svg(mut self, heading: &Heading) -> String {
         let bounds = self.layout.bounds();
-        let top = MARGIN + LINE * (heading.len() as f64 + 1.0);
-        let width = (bounds.width + 2.0 * MARGIN).max(longest as f64 * LETTER + 2.0 * MARGIN);
-        let bottom = top + bounds.height + LINE;
-        let height = bottom + LINE * legend.len() as f64 + MARGIN;
-        let left = (width - bounds.width) / 2.0;
-        self.layout = self
-            .layout
-            .moved(Point::new(left - bounds.left, top - bounds.top));
+        let inner = bounds.width.max(TEXT_WIDTH);
+        let above = self.heading(heading, inner);
+        let told = loops_told(self.plan, &self.story, inner);
+        let signs = legend(&self.marks, &self.story, inner);
+
+        let top = MARGIN + extent(&above).1 + LINE;
+        let bottom = top + bounds.height + 1.5 * LINE;
+        let left = MARGIN + (inner - bounds.width) / 2.0;
+        let shift = Point::new(left - bounds.left, top - bounds.top);
+        self.layout = self.layout.moved(shift);
 
         let mut svg = Svg::new();
-        column(&mut svg, &heading, Point::new(MARGIN, MARGIN + LINE * 0.5));
+        column(&mut svg, &above, Point::new(MARGIN, MARGIN));
         (0..self.plan.edges.len()).for_each(|at| self.edge_curve(&mut svg, at));
         (0..self.plan.edges.len()).for_each(|at| self.edge_label(&mut svg, at));
         (0..self.plan.locations.len()).for_each(|at| self.location(&mut svg, at));
-        column(&mut svg, &legend, Point::new(MARGIN, bottom + LINE));
-        svg.finished(width, height)
+        let end = listed(&mut svg, &told, Point::new(MARGIN, bottom));
+        let gap = if told.is_empty() { 0.0 } else { LINE };
+        let end = listed(&mut svg, &signs, Point::new(MARGIN, end + gap));
+        let shows = format!("drawing of the plan {}", heading.title);
+        svg.finished(inner + 2.0 * MARGIN, end + MARGIN, &shows)
     }
 
-    fn heading(&self, title: &str) -> Vec<Words> {
+    fn heading(&self, heading: &Heading, width: f64) -> Vec<Line> {
         let plural = if self.plan.clocks.len() == 1 { "" } else { "s" };
         let clocks = self.plan.clocks.join(", ");
         let about = format!("clock{plural} {clocks}; ceiling {}", self.plan.ceiling);
-        vec![bold(title, PLAIN), words(&about, FAINT)]
-    }
-
-    fn legend(&self) -> Vec<Words> {
-        let mut legend = vec![
-            words("green: the start; red: forbidden", FAINT),
-            words(
-                "an edge without a limit on a clock is open for it up to the ceiling",
-                FAINT,
-            ),
-        ];
-        if self.has_trail {
-            legend.push(words(
-                "blue: the trail; step and wait tell the numbers of its steps",
-                TRAIL,
-            ));
-        }
-        if self
-            .marks
-            .locations
-            .iter()
-            .any(|mark| !mark.touches.is_empty())
-        {
-            legend.push(words(
-                "orange: the loop that a step of the trail drifts into, with its own steps",
-                LOOP,
-            ));
-        }
-        legend
+        let verdict = heading.verdict.map(|verdict| large(verdict, PLAIN));
+        let lines = [bold(heading.title, PLAIN)]
+            .into_iter()
+            .chain(verdict)
+            .chain([plain(&about, FAINT)]);
+        lines.flat_map(|line| line.wrapped(width)).collect()
     }
 
     fn edge_curve(&self, svg: &mut Svg, at: usize) {
-        let (curve, mark) = (&self.layout.curves[at], &self.marks.edges[at]);
-        let colour = colour_of(mark);
+        let curve = &self.layout.curves[at];
+        let how = stroke_of(&self.marks.edges[at]);
         svg.group(&self.plan.edge_title(at), |svg| {
-            if mark.on_loop() && mark.on_trail() {
-                // Both: the loop shows as a rim on both sides of the trail.
-                svg.curve(curve, &format!("stroke=\"{LOOP}\" stroke-width=\"8.5\""));
-                svg.curve(curve, "stroke=\"white\" stroke-width=\"5\"");
+            for style in stroke(how) {
+                svg.curve(curve, &style);
             }
-            let width = if mark.on_loop() || mark.on_trail() {
-                2.6
-            } else {
-                1.3
-            };
-            svg.curve(
-                curve,
-                &format!("stroke=\"{colour}\" stroke-width=\"{width}\""),
-            );
-            svg.arrow(curve.0[3], curve.arrival(), ARROW, colour);
+            svg.arrow(curve.0[3], curve.arrival(), ARROW, how.colour());
         });
     }
 
     fn edge_label(&self, svg: &mut Svg, at: usize) {
         let frame = &self.layout.labels[at];
-        svg.frame(frame, 4.0, "fill=\"white\" stroke=\"#dddddd\"");
+        let style = format!("fill=\"{WHITE}\" stroke=\"#dddddd\"");
+        svg.frame(frame, 4.0, &style);
         centred(svg, &self.labels[at], frame);
     }
 
@@ -173,9 +141,9 @@ impl<'a> Drawing<'a> {
         let frame = &self.layout.locations[at];
         let (fill, stroke, width) = match (self.plan.locations[at].forbidden, self.plan.start == at)
         {
-            (true, _) => ("#fdecea", FORBIDDEN, 2.5),
-            (_, true) => ("#e9f6ee", START, 2.5),
-            _ => ("#f6f6f6", PLAIN, 1.3),
+            (true, _) => (FORBIDDEN_GROUND, FORBIDDEN, 2.5),
+            (_, true) => (START_GROUND, START, 2.5),
+            _ => (PLAIN_GROUND, PLAIN, 1.3),
         };
         svg.group(&format!("location {at} {}", self.plan.quoted(at)), |svg| {
             svg.frame(
@@ -196,79 +164,65 @@ impl<'a> Drawing<'a> {
     }
 }
 
-fn colour_of(mark: &Mark) -> &'static str {
+/// How an edge is drawn.
+#[derive(Clone, Copy, Debug, PartialEq, Eq)]
+enum Stroke {
+    Plain,
+    Trail,
+    Loop,
+    TrailAndLoop,
+}
+
+impl Stroke {
+    fn colour(self) -> &'static str {
+        match self {
+            Stroke::Plain => PLAIN,
+            Stroke::Trail | Stroke::TrailAndLoop => TRAIL,
+            Stroke::Loop => LOOP,
+        }
+    }
+}
+
+fn stroke_of(mark: &Mark) -> Stroke {
     match (mark.on_trail(), mark.on_loop()) {
-        (true, _) => TRAIL,
-        (_, true) => LOOP,
-        _ => PLAIN,
+        (true, true) => Stroke::TrailAndLoop,
+        (true, false) => Stroke::Trail,
+        (false, true) => Stroke::Loop,
+        (false, false) => Stroke::Plain,
     }
 }
 
-fn words(text: &str, colour: &'static str) -> Words {
-    Words {
-        text: text.to_string(),
-        colour,
-        bold: false,
+/// The styles that a line is drawn in, one over the other. Loops are dashed,
+/// so that they are told from the trail without colours too.
+fn stroke(how: Stroke) -> Vec<String> {
+    let line = |colour: &str, width: f64| format!("stroke=\"{colour}\" stroke-width=\"{width}\"");
+    let dashed = |width: f64| line(LOOP, width) + " stroke-dasharray=\"8 4\"";
+    match how {
+        Stroke::Plain => vec![line(PLAIN, 1.3)],
+        Stroke::Trail => vec![line(TRAIL, 3.0)],
+        Stroke::Loop => vec![dashed(3.0)],
+        // The loop shows as a rim on both sides of the trail.
+        Stroke::TrailAndLoop => vec![dashed(9.0), line(WHITE, 5.5), line(TRAIL, 3.0)],
     }
 }
 
-fn bold(text: &str, colour: &'static str) -> Words {
-    Words {
-        bold: true,
-        ..words(text, colour)
+/// Entries below each other; where they end.
+fn listed(svg: &mut Svg, entries: &[Entry], at: Point) -> f64 {
+    let mut top = at.y;
+    for entry in entries {
+        entry.draw(svg, Point::new(at.x, top));
+        top += entry.height();
     }
+    top
 }
 
 /// The box of these lines with some padding.
-fn size(lines: &[Words], padding: f64) -> (f64, f64) {
-    let longest = lines
-        .iter()
-        .map(|line| line.text.chars().count())
-        .max()
-        .unwrap_or(0);
-    (
-        longest as f64 * LETTER + 2.0 * padding + 4.0,
-        lines.len() as f64 * LINE + 2.0 * padding,
-    )
+fn size(lines: &[Line], padding: f64) -> (f64, f64) {
+    let (width, height) = extent(lines);
+    (width + 2.0 * padding + 4.0, height + 2.0 * padding)
 }
 
-fn style(line: &Words) -> String {
-    let weight = if line.bold {
-        " font-weight=\"bold\""
-    } else {
-        ""
-    };
-    format!("fill=\"{}\"{weight}", line.colour)
-}
-
-/// Lines below each other, from the left.
-fn column(svg: &mut Svg, lines: &[Words], at: Point) {
-    for (number, line) in lines.iter().enumerate() {
-        svg.text(
-            Point::new(at.x, at.y + LINE * number as f64),
-            "start",
-            &style(line),
-            &line.text,
-        );
-    }
-}
-
-/// Lines below each other in the middle of a frame.
-fn centred(svg: &mut Svg, lines: &[Words], frame: &Frame) {
-    let centre = frame.centre();
-    let top = centre.y - LINE * lines.len() as f64 / 2.0;
-    for (number, line) in lines.iter().enumerate() {
-        let baseline = top + LINE * (number as f64 + 0.75);
-        svg.text(
-            Point::new(centre.x, baseline),
-            "middle",
-            &style(line),
-            &line.text,
-        );
-    }
-}
-
-fn location_lines(plan: &Plan, at: usize, mark: &Mark) -> Vec<Words> {
+fn location_lines(plan: &Plan, at: usize, mark: &Mark) -> Vec<Line> {
     let location = &plan.locations[at];
     let mut lines = vec![bold(&location.name, PLAIN)];
     if plan.start == at {
@@ -278,20 +232,19 @@ fn location_lines(plan: &Plan, at: usize, mark: &Mark) -> Vec<Words> {
         lines.push(bold("forbidden", FORBIDDEN));
     }
     for limit in broken(&plan.stay_words(at)) {
-        lines.push(words(&format!("stay {}", pretty(&limit)), PLAIN));
+        lines.push(plain(&format!("stay {}", pretty(&limit)), PLAIN));
     }
     lines.extend(mark_lines(mark, "wait"));
     lines
 }
 
-fn edge_lines(plan: &Plan, at: usize, mark: &Mark) -> Vec<Words> {
+fn edge_lines(plan: &Plan, at: usize, mark: &Mark) -> Vec<Line> {
     let edge = &plan.edges[at];
-    let name = edge.name.clone().unwrap_or_else(|| format!("edge {at}"));
-    let mut lines = vec![bold(&name, FAINT)];
+    let mut lines = vec![bold(&edge_name(plan, at), FAINT)];
     let guard = broken(&plan.guard_words(edge));
-    lines.extend(guard.iter().map(|line| words(&pretty(line), PLAIN)));
+    lines.extend(guard.iter().map(|line| plain(&pretty(line), PLAIN)));
     if guard.is_empty() {
-        lines.push(words("any time", PLAIN));
+        lines.push(plain("any time", PLAIN));
     }
     let names: Vec<String> = plan
         .reset_names(edge)
@@ -299,38 +252,42 @@ fn edge_lines(plan: &Plan, at: usize, mark: &Mark) -> Vec<Words> {
         .map(|name| name.to_string())
         .collect();
     for part in broken(&names) {
-        lines.push(words(&format!("reset {part}"), START));
+        lines.push(plain(&format!("reset {part}"), START));
     }
     lines.extend(mark_lines(mark, "step"));
     lines
 }
 
-/// The numbers of the steps that pass here.
-fn mark_lines(mark: &Mark, steps: &str) -> Vec<Words> {
-    let mut lines = Vec::new();
-    for (what, numbers) in [
-        (steps, &mark.steps),
-        ("rim", &mark.faces),
-        ("drift", &mark.touches),
-    ] {
-        if !numbers.is_empty() {
-            lines.extend(numbered(what, numbers, TRAIL));
-        }
+/// The numbers of the steps that pass here, in their order, and the loops.
+fn mark_lines(mark: &Mark, steps: &str) -> Vec<Line> {
+    let mut notes = vec![
+        (mark.steps.first(), numbered(steps, &mark.steps)),
+        (mark.faces.first(), numbered("rim", &mark.faces)),
+    ];
+    for (steps, number) in &mark.drifts {
+        let mut lines = numbered("drift", steps);
+        lines.push(bold(&format!("round {}", loop_name(*number)), LOOP));
+        notes.push((steps.first(), lines));
     }
-    for (touch, numbers) in &mark.loops {
-        lines.extend(numbered(&format!("loop {touch}:"), numbers, LOOP));
-    }
-    lines
+    notes.sort_by_key(|(first, _)| *first);
+    let names = mark.loops.iter().map(|&number| loop_name(number));
+    let loops = names.map(|name| bold(&name, LOOP));
+    notes
+        .into_iter()
+        .flat_map(|(_, lines)| lines)
+        .chain(loops)
+        .collect()
 }
 
-fn numbered(what: &str, numbers: &[usize], colour: &'static str) -> Vec<Words> {
-    let parts: Vec<String> = numbers_words(numbers)
-        .split(", ")
-        .map(str::to_string)
-        .collect();
+fn numbered(what: &str, numbers: &[usize]) -> Vec<Line> {
+    if numbers.is_empty() {
+        return Vec::new();
+    }
+    let words = numbers_words(numbers);
+    let parts: Vec<String> = words.split(", ").map(str::to_string).collect();
     let mut lines = broken(&parts);
     lines[0] = format!("{what} {}", lines[0]);
-    lines.iter().map(|line| bold(line, colour)).collect()
+    lines.iter().map(|line| bold(line, TRAIL)).collect()
 }
 
 /// Parts joined by commas into lines that are not too long.

@@ -1,6 +1,5 @@
 //! Refusals in words, and what in a given model or evidence they are about.
 
-use crate::bytes::decode;
 use crate::flaw::{Flaw, Numbers};
 use crate::sheet::read_sheet;
 use crate::trail::read_trail;
@@ -109,10 +108,11 @@ pub fn refusal_words(number: Refusal) -> Option<String> {
     Some(format!("refused {number}: {meaning}\n{advice}\n"))
 }
 
-/// What in the model, and in the evidence if given, a refusal is about.
-pub fn about(number: Refusal, model: &[u8], evidence: Option<&[u8]>) -> String {
-    let plan = match decode(model) {
-        Err(flaw) => return matching(number, "this model", &flaw),
+/// What in a plan, and in evidence for it if given, a refusal is about. A plan
+/// that could not be read comes as its flaw.
+pub fn about(number: Refusal, plan: Result<&Plan, &Flaw>, evidence: Option<&[u8]>) -> String {
+    let plan = match plan {
+        Err(flaw) => return matching(number, "this plan", flaw),
         Ok(plan) => plan,
     };
     let states = states_of(&plan.model());
@@ -123,14 +123,14 @@ pub fn about(number: Refusal, model: &[u8], evidence: Option<&[u8]>) -> String {
             format!("here: the marks take {states} bytes; a sheet takes at most {room}\n")
         }
         (_, None) if number > OUTPUT_TOO_SHORT => {
-            "here: the model is read without a flaw; give the evidence too, since this refusal \
+            "here: the plan is read without a flaw; give the evidence too, since this refusal \
              is about it\n"
                 .to_string()
         }
         (_, None) => {
-            format!("here: this model has no flaw {number}, nor any other that reading shows\n")
+            format!("here: this plan has no flaw {number}, nor any other that reading shows\n")
         }
-        (_, Some(evidence)) => match read_evidence(&plan, evidence) {
+        (_, Some(evidence)) => match read_evidence(plan, evidence) {
             Err(flaw) => matching(number, "this evidence", &flaw),
             Ok(kind) => {
                 format!("here: no flaw in this {kind}; the proved check has the last word\n")
@@ -152,7 +152,8 @@ fn room_words(states: usize) -> String {
         "so they refuse it"
     };
     format!(
-        "here: this model has {states} states; the programs lend scratch for {SCRATCH}, {enough}\n"
+        "here: this plan has {states} states; the programs judge and evidence_bytes lend scratch \
+         for {SCRATCH}, {enough}\n"
     )
 }
 

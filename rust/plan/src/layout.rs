@@ -1,8 +1,12 @@
 //! Places for the locations, edges and labels of a drawing: locations on an
 //! ellipse, parallel edges fanned out, loops as petals outward, each label on
-//! its own edge. The drawing grows until nothing overlaps.
+//! its own edge. Drawings of several shapes grow until nothing overlaps, and
+//! the one that is read best on a page is taken.
 
-use crate::curve::{Curve, Frame, Point};
+mod labels;
+
+use crate::curve::{Curve, Frame, Point, Track};
+use labels::Labels;
 use std::f64::consts::PI;
 
 /// What is to be placed: sizes of locations, ends and label sizes of edges.
@@ -31,35 +35,98 @@ pub struct Layout {
 pub const GAP: f64 = 6.0;
 /// The length of an arrowhead; no label may cover one.
 pub const ARROW: f64 = 12.0;
-/// How much larger each try is.
-const GROWTH: f64 = 1.12;
-/// Up to here the drawing grows to keep foreign edges out of the labels too.
-const TIDY_TRIES: usize = 12;
-const MOST_TRIES: usize = 40;
+/// Width and height that a page of A4 leaves to a drawing at full size, its
+/// heading and legend taken off.
+const ROOM: (f64, f64) = (632.0, 760.0);
+/// Shapes to try: heights of the ellipse against its width, and how far apart
+/// parallel edges run, in labels.
+const SLOPES: [f64; 4] = [0.7, 0.5, 1.0, 1.4];
+const SPREADS: [f64; 3] = [0.5, 0.75, 1.0];
+/// The scale of the first try, and how much larger each next one is.
+const SMALLEST: f64 = 0.5;
+const GROWTH: f64 = 1.08;
+const MOST_TRIES: i32 = 50;
+/// What it costs that a foreign edge runs under a label, that edges are short,
+/// and that a drawing which fits is larger; in shares of the room.
+const COVERED: f64 = 0.05;
+const SHORT: f64 = 0.1;
+const LARGER: f64 = 0.001;
+/// From this scale on edges are not short.
+const AMPLE: f64 = 1.4;
 
-pub fn layout(sketch: &Sketch) -> Layout {
-    let order = best_order(sketch);
-    let mut fallback: Option<(usize, Layout)> = None;
-    for attempt in 0..MOST_TRIES {
-        let scale = GROWTH.powi(attempt as i32);
-        let placed = place(sketch, &order, scale);
-        let Some(covered) = placed.covered() else {
-            continue;
-        };
-        if covered == 0 {
-            return placed;
-        }
-        if fallback.as_ref().is_none_or(|(least, _)| covered < *least) {
-            fallback = Some((covered, placed));
-        }
-        if attempt >= TIDY_TRIES {
-            break;
+/// The measures of a try.
+#[derive(Clone, Copy, Debug)]
+struct Measures {
+    scale: f64,
+    slope: f64,
+    spread: f64,
+}
+
+impl Measures {
+    fn of(attempt: i32, slope: f64, spread: f64) -> Measures {
+        Measures {
+            scale: SMALLEST * GROWTH.powi(attempt),
+            slope,
+            spread,
         }
     }
-    fallback.map_or_else(
-        || place(sketch, &order, GROWTH.powi(MOST_TRIES as i32)),
+}
+
+pub fn layout(sketch: &Sketch) -> Layout {
+    let mut tries = Tries {
+        sketch,
+        order: best_order(sketch),
+        best: None,
+    };
+    for slope in SLOPES {
+        for spread in SPREADS {
+            tries.grow(slope, spread);
+        }
+    }
+    let Tries { order, best, .. } = tries;
+    best.map_or_else(
+        || {
+            let largest = Measures::of(MOST_TRIES, SLOPES[0], SPREADS[0]);
+            place(sketch, &order, largest).labelled(sketch)
+        },
         |(_, placed)| placed,
     )
+}
+
+/// Drawings of one sketch, and the best so far with its cost.
+struct Tries<'a> {
+    sketch: &'a Sketch,
+    order: Vec<usize>,
+    best: Option<(f64, Layout)>,
+}
+
+impl Tries<'_> {
+    /// Tries drawings of one shape, until larger ones cannot be better.
+    fn grow(&mut self, slope: f64, spread: f64) {
+        for attempt in 0..MOST_TRIES {
+            let measures = Measures::of(attempt, slope, spread);
+            let bare = place(self.sketch, &self.order, measures);
+            let least = bare.page_cost();
+            if self.best.as_ref().is_some_and(|(cost, _)| *cost <= least) {
+                return;
+            }
+            if bare.is_clear() {
+                self.judge(bare.labelled(self.sketch), measures.scale);
+            }
+        }
+    }
+
+    /// Keeps a drawing in which nothing overlaps, if it is the best so far.
+    fn judge(&mut self, placed: Layout, scale: f64) {
+        let Some(covered) = placed.covered() else {
+            return;
+        };
+        let short = SHORT * (AMPLE - scale).max(0.0);
+        let cost = placed.page_cost() * (1.0 + COVERED * covered as f64 + short);
+        if self.best.as_ref().is_none_or(|(least, _)| cost < *least) {
+            self.best = Some((cost, placed));
+        }
+    }
 }
 
 /// The order of the locations along the ellipse with the fewest crossings,
@@ -71,8 +138,6 @@ fn best_order(sketch: &Sketch) -> Vec<usize> {
         .map(|edge| (edge.from.min(edge.to), edge.from.max(edge.to)))
         .collect();
     pairs.retain(|(from, to)| from != to);
-    pairs.sort_unstable();
-    pairs.dedup();
     let mut order: Vec<usize> = (0..sketch.locations.len()).collect();
     let mut best = (cost(&pairs, &order), order.clone());
     permute(&mut order, 1, &mut |order| {
@@ -124,23 +189,23 @@ fn cost(pairs: &[(usize, usize)], order: &[usize]) -> usize {
     crossings * 100 + length
 }
 
-fn place(sketch: &Sketch, order: &[usize], scale: f64) -> Layout {
-    let (locations, angles) = place_locations(sketch, order, scale);
-    let curves: Vec<Curve> = whole_curves(sketch, &locations, &angles, scale)
+/// Locations and edges; the labels come last.
+fn place(sketch: &Sketch, order: &[usize], measures: Measures) -> Layout {
+    let (locations, angles) = place_locations(sketch, order, measures);
+    let curves: Vec<Curve> = whole_curves(sketch, &locations, &angles, measures)
         .iter()
         .zip(&sketch.edges)
         .map(|(curve, edge)| curve.outside(&locations[edge.from], &locations[edge.to]))
         .collect();
-    let labels = Labels::new(sketch, &locations, &curves).settled();
     Layout {
         locations,
         curves,
-        labels,
+        labels: Vec::new(),
     }
 }
 
 /// Frames on an ellipse, and the direction outward of each.
-fn place_locations(sketch: &Sketch, order: &[usize], scale: f64) -> (Vec<Frame>, Vec<f64>) {
+fn place_locations(sketch: &Sketch, order: &[usize], measures: Measures) -> (Vec<Frame>, Vec<f64>) {
     let count = order.len();
     let mut frames = vec![Frame::around(Point::new(0.0, 0.0), 0.0, 0.0); count];
     let mut angles = vec![-PI / 2.0; count];
@@ -153,16 +218,17 @@ fn place_locations(sketch: &Sketch, order: &[usize], scale: f64) -> (Vec<Frame>,
         .iter()
         .fold(0.0, |tallest: f64, size| tallest.max(size.1));
     let steps = count as f64 / 5.0;
-    let across = scale * (widest * 0.9 + 60.0) * steps.max(1.0);
-    let down = scale * (tallest + 60.0) * steps.max(1.0);
+    let across = measures.scale * (widest * 0.9 + 60.0) * steps.max(1.0);
+    let down = measures.scale * (tallest + 60.0) * steps.max(1.0);
     for (at, &location) in order.iter().enumerate() {
-        // Two locations stand side by side, more of them begin at the top.
-        let first = if count == 2 { PI } else { -PI / 2.0 };
+        // Two locations may stand side by side, more of them begin at the top.
+        let beside = count == 2 && measures.slope < 1.0;
+        let first = if beside { PI } else { -PI / 2.0 };
         let angle = first + 2.0 * PI * at as f64 / count as f64;
         let (across, down) = if count == 1 {
             (0.0, 0.0)
         } else {
-            (across, down.max(across * 0.7))
+            (across, down.max(across * measures.slope))
         };
         let centre = Point::new(across * angle.cos(), down * angle.sin());
         let (width, height) = sketch.locations[location];
@@ -177,44 +243,47 @@ fn place_locations(sketch: &Sketch, order: &[usize], scale: f64) -> (Vec<Frame>,
 }
 
 /// The edges from centre to centre.
-fn whole_curves(sketch: &Sketch, locations: &[Frame], angles: &[f64], scale: f64) -> Vec<Curve> {
-    let ends = |edge: &SketchEdge| (edge.from.min(edge.to), edge.from.max(edge.to));
+fn whole_curves(
+    sketch: &Sketch,
+    locations: &[Frame],
+    angles: &[f64],
+    measures: Measures,
+) -> Vec<Curve> {
     let all = sketch.edges.iter().enumerate();
     all.map(|(at, edge)| {
-        // The place of this edge among those between the same locations:
-        // those one way first, then those the other way.
-        let mut alike: Vec<usize> = (0..sketch.edges.len())
-            .filter(|&other| ends(&sketch.edges[other]) == ends(edge))
-            .collect();
-        alike.sort_by_key(|&other| (sketch.edges[other].from, other));
-        let slot = alike
-            .iter()
-            .position(|&other| other == at)
-            .expect("it is like itself");
+        let alike = parallel(sketch, at);
+        let slot = alike.iter().position(|&other| other == at);
+        let slot = slot.expect("an edge is parallel to itself");
         let middle = slot as f64 - (alike.len() as f64 - 1.0) / 2.0;
         if edge.from == edge.to {
             let around = if locations.len() == 1 { 2.0 * PI } else { PI };
             let apart = (around / alike.len() as f64).min(0.8);
-            petal(
-                &locations[edge.from],
-                angles[edge.from] + middle * apart,
-                apart,
-                scale,
-            )
+            let angle = angles[edge.from] + middle * apart;
+            petal(&locations[edge.from], angle, apart, measures.scale)
         } else {
-            fanned(
-                locations,
-                edge,
-                middle * spread(sketch, locations, edge, &alike),
-            )
+            let label = label_across(sketch, locations, edge, &alike);
+            let bend = middle * (measures.spread * label + 2.0 * GAP);
+            fanned(locations, edge, bend)
         }
     })
     .collect()
 }
 
-/// How far apart parallel edges run: so that a label in the middle of one
-/// leaves the next one free.
-fn spread(sketch: &Sketch, locations: &[Frame], edge: &SketchEdge, alike: &[usize]) -> f64 {
+/// The edges between the same two locations as this one: those one way first,
+/// then those the other way.
+fn parallel(sketch: &Sketch, edge: usize) -> Vec<usize> {
+    let ends = |at: usize| {
+        let SketchEdge { from, to, .. } = sketch.edges[at];
+        (from.min(to), from.max(to))
+    };
+    let all = 0..sketch.edges.len();
+    let mut alike: Vec<usize> = all.filter(|&other| ends(other) == ends(edge)).collect();
+    alike.sort_by_key(|&other| (sketch.edges[other].from, other));
+    alike
+}
+
+/// How far the largest label of parallel edges reaches across them.
+fn label_across(sketch: &Sketch, locations: &[Frame], edge: &SketchEdge, alike: &[usize]) -> f64 {
     let way = locations[edge.to]
         .centre()
         .minus(locations[edge.from].centre());
@@ -226,8 +295,7 @@ fn spread(sketch: &Sketch, locations: &[Frame], edge: &SketchEdge, alike: &[usiz
         let (width, height) = sketch.edges[other].label;
         along_y * width + along_x * height
     });
-    let widest = extents.fold(0.0, f64::max);
-    widest / 2.0 + 2.0 * GAP
+    extents.fold(0.0, f64::max)
 }
 
 /// A loop that leaves its location in a direction and comes back.
@@ -250,135 +318,36 @@ fn fanned(locations: &[Frame], edge: &SketchEdge, bend: f64) -> Curve {
     Curve([from, handle(0.3), handle(0.7), to])
 }
 
-/// Labels looking for free places on their curves.
-struct Labels<'a> {
-    sketch: &'a Sketch,
-    points: Vec<Vec<Point>>,
-    /// What no label may cover: locations and arrowheads.
-    taken: Vec<Frame>,
-    /// Per edge the places that are free of those, with how good they are.
-    places: Vec<Vec<(f64, Frame)>>,
-}
-
-/// Places tried along a curve.
-const PLACES: usize = 48;
-const ROUNDS: usize = 12;
-
-impl<'a> Labels<'a> {
-    fn new(sketch: &'a Sketch, locations: &[Frame], curves: &[Curve]) -> Labels<'a> {
-        let arrows = curves.iter().map(arrow_frame);
-        let taken = locations.iter().copied().chain(arrows).collect();
-        let points = curves.iter().map(Curve::points).collect();
-        let mut labels = Labels {
-            sketch,
-            points,
-            taken,
-            places: Vec::new(),
-        };
-        labels.places = (0..curves.len())
-            .map(|edge| labels.places_of(edge, &curves[edge]))
-            .collect();
-        labels
-    }
-
-    /// The places of a label without regard to other labels, best first.
-    fn places_of(&self, edge: usize, curve: &Curve) -> Vec<(f64, Frame)> {
-        let (width, height) = self.sketch.edges[edge].label;
-        let mut places: Vec<(f64, Frame)> = (1..PLACES)
-            .map(|at| {
-                let t = at as f64 / PLACES as f64;
-                let frame = Frame::around(curve.at(t), width, height);
-                let roomy = frame.grown(GAP);
-                let blocked = self
-                    .taken
-                    .iter()
-                    .filter(|taken| taken.overlaps(&roomy))
-                    .count();
-                let cost = 1000.0 * blocked as f64
-                    + 20.0 * self.crossing(edge, &frame) as f64
-                    + (t - 0.5).abs() * 10.0;
-                (cost, frame)
-            })
-            .collect();
-        places.sort_by(|one, other| one.0.total_cmp(&other.0));
-        places
-    }
-
-    /// How many other edges run through a frame.
-    fn crossing(&self, edge: usize, frame: &Frame) -> usize {
-        let others = self
-            .points
-            .iter()
-            .enumerate()
-            .filter(|(other, _)| *other != edge);
-        others
-            .filter(|(_, points)| runs_through(points, frame))
-            .count()
-    }
-
-    /// Each label in turn takes its best place, until none wants to move.
-    fn settled(&self) -> Vec<Frame> {
-        let mut chosen: Vec<Frame> = self.places.iter().map(|places| places[0].1).collect();
-        for _ in 0..ROUNDS {
-            let before = chosen.clone();
-            for edge in 0..chosen.len() {
-                chosen[edge] = self.best_place(edge, &chosen);
-            }
-            if chosen == before {
-                break;
-            }
-        }
-        chosen
-    }
-
-    fn best_place(&self, edge: usize, chosen: &[Frame]) -> Frame {
-        let mut best = (f64::INFINITY, chosen[edge]);
-        for (cost, frame) in &self.places[edge] {
-            if *cost >= best.0 {
-                break; // the rest is no better, whatever the labels do
-            }
-            let roomy = frame.grown(GAP);
-            let others = chosen
-                .iter()
-                .enumerate()
-                .filter(|(other, _)| *other != edge);
-            let covered = others.filter(|(_, other)| other.overlaps(&roomy)).count();
-            let cost = cost + 400.0 * covered as f64;
-            if cost < best.0 {
-                best = (cost, *frame);
-            }
-        }
-        best.1
-    }
-}
-
 fn arrow_frame(curve: &Curve) -> Frame {
     let tip = curve.0[3];
     Frame::around(tip.towards(curve.arrival(), -ARROW / 2.0), ARROW, ARROW)
 }
 
-fn runs_through(points: &[Point], frame: &Frame) -> bool {
-    points.windows(2).any(|pair| {
-        let middle = pair[0].plus(pair[1].minus(pair[0]), 0.5);
-        frame.contains(pair[0]) || frame.contains(middle)
-    })
-}
-
 impl Layout {
+    fn labelled(mut self, sketch: &Sketch) -> Layout {
+        self.labels = Labels::new(sketch, &self.locations, &self.curves).settled();
+        self
+    }
+
+    /// The share of a page's room that the drawing takes, if that is more than
+    /// there is: so much smaller must its letters be.
+    fn page_cost(&self) -> f64 {
+        let bounds = self.bounds();
+        let share = (bounds.width / ROOM.0).max(bounds.height / ROOM.1);
+        share.max(1.0) + LARGER * share
+    }
+
     /// How many times a foreign edge runs under a label, if nothing overlaps
     /// that must not: labels, locations, arrowheads, edges through locations.
     pub fn covered(&self) -> Option<usize> {
         if !self.is_clear() {
             return None;
         }
-        let points: Vec<Vec<Point>> = self.curves.iter().map(Curve::points).collect();
+        let tracks: Vec<Track> = self.curves.iter().map(Curve::track).collect();
         let foreign = |edge: usize| {
-            let others = points
-                .iter()
-                .enumerate()
-                .filter(move |(other, _)| *other != edge);
+            let others = tracks.iter().enumerate();
             others
-                .filter(move |(_, points)| runs_through(points, &self.labels[edge]))
+                .filter(|(other, track)| *other != edge && track.runs_through(&self.labels[edge]))
                 .count()
         };
         Some((0..self.labels.len()).map(foreign).sum())
@@ -414,11 +383,10 @@ impl Layout {
 
     /// The frame around everything.
     pub fn bounds(&self) -> Frame {
-        let points = self.curves.iter().flat_map(|curve| curve.points());
-        let dots = points.map(|point| Frame::around(point, 0.0, 0.0));
+        let curves = self.curves.iter().map(|curve| curve.track().around);
         let frames = self.locations.iter().chain(&self.labels).copied();
         frames
-            .chain(dots)
+            .chain(curves)
             .reduce(|all, frame| all.joined(&frame))
             .expect("a plan has a location")
     }

@@ -23,9 +23,11 @@ pub mod sheet;
 pub mod svg;
 pub mod tell;
 pub mod trail;
+pub mod units;
 
 mod plan;
 
 pub use flaw::Flaw;
 pub use mistake::Mistake;
 pub use plan::{Edge, Location, Plan};
+pub use units::Units;

@@ -1,35 +1,28 @@
 //! Where a trail goes: the numbers of its steps, by location and by edge.
 
-use crate::trail::{Kind, Step};
+use crate::tell::story::{Event, Part, Story};
 use crate::Plan;
 
-/// The numbers noted at one location or edge.
+/// What is noted at one location or edge.
 #[derive(Clone, Debug, Default, PartialEq, Eq)]
 pub struct Mark {
-    /// Steps of the trail itself: waits or jumps.
+    /// Steps of the trail: waits or jumps.
     pub steps: Vec<usize>,
     /// Steps to a face.
     pub faces: Vec<usize>,
-    /// Steps that touch a loop.
-    pub touches: Vec<usize>,
-    /// Per touch, by its step number, the steps of its loop.
-    pub loops: Vec<(usize, Vec<usize>)>,
+    /// Steps that drift round a loop, and the number of the loop.
+    pub drifts: Vec<(Vec<usize>, usize)>,
+    /// The numbers of the loops that lead along here.
+    pub loops: Vec<usize>,
 }
 
 impl Mark {
     pub fn on_trail(&self) -> bool {
-        !(self.steps.is_empty() && self.faces.is_empty() && self.touches.is_empty())
+        !self.steps.is_empty()
     }
 
     pub fn on_loop(&self) -> bool {
         !self.loops.is_empty()
-    }
-
-    fn note_loop(&mut self, touch: usize, step: usize) {
-        match self.loops.iter_mut().find(|(number, _)| *number == touch) {
-            Some((_, steps)) => steps.push(step),
-            None => self.loops.push((touch, vec![step])),
-        }
     }
 }
 
@@ -39,34 +32,39 @@ pub struct Marks {
     pub edges: Vec<Mark>,
 }
 
-/// The marks of a trail; without steps nothing is marked.
-pub fn marks_of(plan: &Plan, steps: &[Step]) -> Marks {
+/// The marks of a trail; without parts nothing is marked.
+pub fn marks_of(plan: &Plan, story: &Story) -> Marks {
     let mut marks = Marks {
         locations: vec![Mark::default(); plan.locations.len()],
         edges: vec![Mark::default(); plan.edges.len()],
     };
-    for (number, step) in (1..).zip(steps) {
-        let here = &mut marks.locations[step.from.location];
-        match &step.kind {
-            Kind::Time => here.steps.push(number),
-            Kind::Face => here.faces.push(number),
-            Kind::Jump(edge) => marks.edges[*edge].steps.push(number),
-            Kind::Touch(walk) => {
-                here.touches.push(number);
-                marks.note_walk(number, walk);
-            }
+    for part in &story.parts {
+        marks.note(part);
+    }
+    for (number, edges) in story.loops.iter().enumerate() {
+        for &edge in edges {
+            marks.note_loop(edge, number);
         }
     }
     marks
 }
 
 impl Marks {
-    fn note_walk(&mut self, touch: usize, walk: &[Step]) {
-        for (number, step) in (1..).zip(walk) {
-            match step.kind {
-                Kind::Jump(edge) => self.edges[edge].note_loop(touch, number),
-                _ => self.locations[step.from.location].note_loop(touch, number),
-            }
+    fn note(&mut self, part: &Part) {
+        let here = &mut self.locations[part.to.location];
+        let steps = part.first..=part.last;
+        match &part.event {
+            Event::Wait => here.steps.extend(steps),
+            Event::Face => here.faces.extend(steps),
+            Event::Jump(edge) => self.edges[*edge].steps.extend(steps),
+            Event::Drift { number, .. } => here.drifts.push((steps.collect(), *number)),
+        }
+    }
+
+    fn note_loop(&mut self, edge: usize, number: usize) {
+        let loops = &mut self.edges[edge].loops;
+        if !loops.contains(&number) {
+            loops.push(number);
         }
     }
 }

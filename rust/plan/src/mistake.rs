@@ -8,48 +8,93 @@ pub struct Mistake {
     pub words: String,
 }
 
+/// So many mistakes are shown, and so many letters of a line and of what is
+/// said of it; more would be read by nobody.
+const MOST_SHOWN: usize = 20;
+const WIDEST_LINE: usize = 160;
+const MOST_WORDS: usize = 400;
+
+/// So many letters of a name are repeated where names are listed.
+const LONGEST_LISTED: usize = 24;
+
 impl Mistake {
     /// The mistake with the line it is in and a mark under its place.
     pub fn shown(&self, file: &str, text: &str) -> String {
         let line = text.lines().nth(self.line - 1).unwrap_or("");
+        let (excerpt, column) = excerpt(line, self.column);
         // Tabs stay tabs, so that the mark stands where the eye expects it.
         let blank = |letter: char| if letter == '\t' { '\t' } else { ' ' };
-        let before: String = line
+        let before: String = excerpt
             .chars()
             .map(blank)
             .chain(std::iter::repeat(' '))
-            .take(self.column - 1)
+            .take(column - 1)
             .collect();
         format!(
-            "{file}, line {}, column {}: {}\n    {line}\n    {before}^\n",
-            self.line, self.column, self.words
+            "{file}, line {}, column {}: {}\n    {excerpt}\n    {before}^\n",
+            self.line,
+            self.column,
+            cut(&self.words, MOST_WORDS)
         )
     }
 }
 
-/// All mistakes of a text, in order, with a count at the end.
+/// A text, or the first letters of a long one.
+fn cut(text: &str, most: usize) -> String {
+    match text.char_indices().nth(most) {
+        Some((end, _)) => format!("{}...", &text[..end]),
+        None => text.to_string(),
+    }
+}
+
+/// A line, or of a long one the part around a column, and the column there.
+fn excerpt(line: &str, column: usize) -> (String, usize) {
+    let letters = line.chars().count();
+    if letters <= WIDEST_LINE {
+        return (line.to_string(), column);
+    }
+    let from = (column - 1).saturating_sub(WIDEST_LINE / 2);
+    let part: String = line.chars().skip(from).take(WIDEST_LINE).collect();
+    (part, column - from)
+}
+
+/// The first mistakes of a text, in order, with a count of all at the end.
 pub fn all_shown(mistakes: &[Mistake], file: &str, text: &str) -> String {
     let shown: String = mistakes
         .iter()
+        .take(MOST_SHOWN)
         .map(|mistake| mistake.shown(file, text))
         .collect();
     let count = match mistakes.len() {
         1 => "1 mistake".to_string(),
+        count if count > MOST_SHOWN => {
+            let rest = count - MOST_SHOWN;
+            format!("and {rest} more, {count} mistakes in all")
+        }
         count => format!("{count} mistakes"),
     };
     format!("{shown}{count}\n")
 }
 
+/// A name for a list of names.
+pub fn shortened(name: &str) -> String {
+    cut(name, LONGEST_LISTED)
+}
+
 /// The known word nearest to a misspelt one, if any is near. Words of one
-/// letter are all alike, so only its case may differ there.
+/// letter are all alike, so only its case may differ there; very long ones are
+/// no slips of the pen.
 pub fn nearest<'a>(word: &str, known: impl IntoIterator<Item = &'a str>) -> Option<&'a str> {
+    let is_long = |word: &str| word.chars().nth(2 * LONGEST_LISTED).is_some();
     let allowed = match word.chars().count() {
+        _ if is_long(word) => return None,
         ..=1 => 0,
         2..=4 => 1,
         _ => 2,
     };
     let near = known
         .into_iter()
+        .filter(|other| !is_long(other))
         .map(|other| (distance(word, other), other))
         .filter(|(distance, _)| *distance <= allowed);
     near.min().map(|(_, other)| other)

@@ -4,9 +4,12 @@
 
 use crate::lex::{tokens, Kind, Token};
 use crate::mistake::{guess, nearest, Mistake};
+use crate::units::{halves, Quantity, Slip};
 
 /// Words that a line can begin with.
-const OPENINGS: [&str; 4] = ["clocks", "ceiling", "location", "edge"];
+const OPENINGS: [&str; 7] = [
+    "clocks", "ceiling", "location", "edge", "unit", "crystal", "bit",
+];
 
 /// Words that open the further parts of a location's and of an edge's line.
 const LOCATION_WORDS: [&str; 3] = ["start", "forbidden", "stay"];
@@ -59,44 +62,41 @@ pub struct Lines {
     pub ceilings: Vec<(Token, Option<Token>)>,
     pub locations: Vec<(Token, LocationLine)>,
     pub edges: Vec<(Token, EdgeLine)>,
+    pub quantities: Vec<(Token, Quantity, Option<u64>)>,
     pub mistakes: Vec<Mistake>,
 }
 
 pub fn lines(text: &str) -> Lines {
     let mut lines = Lines::default();
     for (index, line) in text.lines().enumerate() {
-        let mut reader = Line::new(tokens(line, index + 1), &mut lines.mistakes);
-        let Some(mut opening) = reader.next() else {
-            continue;
+        lines.add(tokens(line, index + 1));
+    }
+    lines
+}
+
+impl Lines {
+    fn add(&mut self, tokens: Vec<Token>) {
+        let mut line = Line::new(tokens, &mut self.mistakes);
+        let Some(mut opening) = line.next() else {
+            return;
         };
-        let Some(word) = reader.meant(
-            &opening,
-            &OPENINGS,
-            "a line begins with clocks, ceiling, location or edge",
-        ) else {
-            continue;
+        let expected =
+            "a line begins with clocks, ceiling, location, edge, unit, crystal or bit rate";
+        let Some(word) = line.meant(&opening, &OPENINGS, expected) else {
+            return;
         };
         opening.text = word.to_string();
         match word {
-            "clocks" => {
-                let names = reader.names();
-                lines.clocks.push((opening, names));
-            }
-            "ceiling" => {
-                let number = reader.ceiling();
-                lines.ceilings.push((opening, number));
-            }
-            "location" => {
-                let location = reader.location();
-                lines.locations.push((opening, location));
-            }
-            _ => {
-                let edge = reader.edge();
-                lines.edges.push((opening, edge));
+            "clocks" => self.clocks.push((opening, line.names())),
+            "ceiling" => self.ceilings.push((opening, line.ceiling())),
+            "location" => self.locations.push((opening, line.location())),
+            "edge" => self.edges.push((opening, line.edge())),
+            word => {
+                let (quantity, value) = line.quantity(word);
+                self.quantities.push((opening, quantity, value));
             }
         }
     }
-    lines
 }
 
 /// The tokens of one line that are still to be read.
@@ -246,6 +246,56 @@ impl<'a> Line<'a> {
             self.wrong_here("nothing may follow the number of the ceiling");
         }
         number
+    }
+
+    /// A line of real units, from what stands behind its first word.
+    fn quantity(&mut self, opening: &str) -> (Quantity, Option<u64>) {
+        let quantity = match opening {
+            "unit" => Quantity::Unit,
+            "crystal" => Quantity::Crystal,
+            _ => Quantity::BitRate,
+        };
+        if quantity == Quantity::BitRate && self.takes(|token| token.is("rate")).is_none() {
+            self.wrong_here(format!(
+                "'rate' is missing here, such as: {}",
+                quantity.example()
+            ));
+            return (quantity, None);
+        }
+        let value = self.measured(quantity);
+        if value.is_some() && self.tokens.peek().is_some() {
+            self.wrong_here(format!("nothing may follow the {}", quantity.name()));
+        }
+        (quantity, value)
+    }
+
+    /// A number and its measure, as one word or as two.
+    fn measured(&mut self, quantity: Quantity) -> Option<u64> {
+        let starts = |token: &Token| {
+            token
+                .text
+                .starts_with(|letter: char| letter.is_ascii_digit())
+        };
+        let Some(first) = self.takes(starts) else {
+            self.wrong_here(format!(
+                "a number is missing here, such as: {}",
+                quantity.example()
+            ));
+            return None;
+        };
+        let (number, joined) = halves(&first.text);
+        let apart = match joined {
+            "" => self.takes(|token| token.kind == Kind::Word),
+            _ => None,
+        };
+        let measure = apart.as_ref().map_or(joined, |token| &token.text);
+        match quantity.value(number, measure) {
+            Ok(value) => return Some(value),
+            Err(Slip::Number(words)) => self.wrong(&first, words),
+            Err(Slip::Measure(words)) if measure.is_empty() => self.wrong_here(words),
+            Err(Slip::Measure(words)) => self.wrong(apart.as_ref().unwrap_or(&first), words),
+        }
+        None
     }
 
     /// A whole number; anything else that might be meant as one is noted.

@@ -1,6 +1,7 @@
 //! A plan: a model of document 01 whose clocks, locations and edges have names.
 
 use crate::bytes::encode;
+use crate::Units;
 use second::limits::MAX_CLOCKS;
 use second::{read_model, Model};
 
@@ -31,6 +32,8 @@ pub struct Plan {
     pub start: usize,
     pub locations: Vec<Location>,
     pub edges: Vec<Edge>,
+    /// Beside the model.
+    pub units: Units,
 }
 
 impl Plan {
@@ -92,7 +95,8 @@ impl Plan {
         read_model(&encode(self)).expect("a plan without a flaw")
     }
 
-    /// The same plan with the names that decoded bytes get.
+    /// The same plan as its decoded bytes give it: with their names and without
+    /// real units.
     pub fn with_plain_names(mut self) -> Plan {
         let clocks = self.clocks.len();
         self.clocks = CLOCK_NAMES[..clocks]
@@ -103,6 +107,7 @@ impl Plan {
             location.name = location_name(at);
         }
         self.edges.iter_mut().for_each(|edge| edge.name = None);
+        self.units = Units::default();
         self
     }
 }

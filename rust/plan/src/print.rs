@@ -1,13 +1,15 @@
 //! A plan written as text, in the form that `read_text` reads.
 
+use crate::units::Quantity;
 use crate::Plan;
 
 /// The text of a plan; what is said by leaving it out is left out.
 pub fn write_text(plan: &Plan) -> String {
     let mut text = format!(
-        "clocks {}\nceiling {}\n\n",
+        "clocks {}\nceiling {}\n{}\n",
         plan.clocks.join(" "),
-        plan.ceiling
+        plan.ceiling,
+        unit_lines(plan)
     );
     for at in 0..plan.locations.len() {
         text += &location_line(plan, at);
@@ -19,6 +21,14 @@ pub fn write_text(plan: &Plan) -> String {
         text += &edge_line(plan, at);
     }
     text
+}
+
+fn unit_lines(plan: &Plan) -> String {
+    let line = |quantity: Quantity| {
+        let value = plan.units.get(quantity)?;
+        Some(format!("{} {}\n", quantity.name(), quantity.written(value)))
+    };
+    Quantity::ALL.into_iter().filter_map(line).collect()
 }
 
 fn location_line(plan: &Plan, at: usize) -> String {

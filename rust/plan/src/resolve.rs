@@ -3,10 +3,11 @@
 
 use crate::lex::Token;
 use crate::loops::unreset_loops;
-use crate::mistake::{guess, Mistake};
-use crate::parse::{lines, Bound, EdgeLine, End, Lines, RESERVED};
-use crate::{Edge, Location, Plan};
+use crate::mistake::{guess, shortened, Mistake};
+use crate::parse::{lines, Bound, EdgeLine, End, Lines, LocationLine, RESERVED};
+use crate::{Edge, Location, Plan, Units};
 use second::limits::{MAX_CEILING, MAX_CLOCKS, MAX_EDGES, MAX_LOCATIONS};
+use std::collections::HashMap;
 
 /// Reads a text plan; or all its mistakes, by line and column.
 pub fn read_text(text: &str) -> Result<Plan, Vec<Mistake>> {
@@ -15,6 +16,7 @@ pub fn read_text(text: &str) -> Result<Plan, Vec<Mistake>> {
     let locations = names.locations(&lines);
     let edges = names.edges(&lines);
     names.loops(&edges);
+    let units = names.units(&lines);
     let mut mistakes = lines.mistakes;
     mistakes.append(&mut names.mistakes);
     if !mistakes.is_empty() {
@@ -28,6 +30,7 @@ pub fn read_text(text: &str) -> Result<Plan, Vec<Mistake>> {
         start: names.start.expect("a missing start is a mistake"),
         locations,
         edges: edges.into_iter().flatten().map(|(edge, _)| edge).collect(),
+        units,
     })
 }
 
@@ -43,6 +46,9 @@ struct Names {
     ceiling: Option<u8>,
     start: Option<usize>,
     locations: Vec<String>,
+    /// The first location of each name and its line. A text may have far more
+    /// than a plan, and is still read in linear time.
+    first_of: HashMap<String, (usize, usize)>,
     end: (usize, usize),
     mistakes: Vec<Mistake>,
 }
@@ -54,6 +60,7 @@ impl Names {
             ceiling: None,
             start: None,
             locations: Vec::new(),
+            first_of: HashMap::new(),
             end,
             mistakes: Vec::new(),
         };
@@ -97,29 +104,24 @@ impl Names {
                 "the names of the clocks are missing, one to three of them",
             );
         }
-        for token in first {
-            if RESERVED.contains(&token.text.as_str()) {
-                self.wrong(
-                    token,
-                    format!(
-                        "a clock cannot be called '{}', which is a word of this language",
-                        token.text
-                    ),
-                );
-            }
-            if self.clocks.contains(&token.text) {
-                self.wrong(token, format!("there are two clocks '{}'", token.text));
-            } else if self.clocks.len() == MAX_CLOCKS {
-                self.wrong(
-                    token,
-                    format!(
-                        "clock '{}' is one too many: a plan has at most {MAX_CLOCKS} clocks",
-                        token.text
-                    ),
-                );
-            } else {
-                self.clocks.push(token.text.clone());
-            }
+        first.iter().for_each(|token| self.clock_name(token));
+    }
+
+    fn clock_name(&mut self, token: &Token) {
+        let name = &token.text;
+        if RESERVED.contains(&name.as_str()) {
+            let words =
+                format!("a clock cannot be called '{name}', which is a word of this language");
+            self.wrong(token, words);
+        }
+        if self.clocks.contains(name) {
+            self.wrong(token, format!("there are two clocks '{name}'"));
+        } else if self.clocks.len() == MAX_CLOCKS {
+            let words =
+                format!("clock '{name}' is one too many: a plan has at most {MAX_CLOCKS} clocks");
+            self.wrong(token, words);
+        } else {
+            self.clocks.push(name.clone());
         }
     }
 
@@ -148,8 +150,7 @@ impl Names {
     }
 
     fn location_names(&mut self, lines: &Lines) {
-        let mut first_start: Option<&Token> = None;
-        let mut lines_of: Vec<&Token> = Vec::new();
+        let mut start: Option<&Token> = None;
         for (at, (opening, line)) in lines.locations.iter().enumerate() {
             if at >= MAX_LOCATIONS {
                 self.wrong(
@@ -160,34 +161,20 @@ impl Names {
                     ),
                 );
             }
-            if let Some(start) = &line.start {
-                match first_start {
-                    None => (first_start, self.start) = (Some(start), Some(at)),
-                    Some(first) => {
-                        let words = format!(
-                            "a second start: the plan already starts in line {}",
-                            first.line
-                        );
-                        self.wrong(start, words);
-                    }
+            match (&line.start, start) {
+                (Some(token), None) => (start, self.start) = (Some(token), Some(at)),
+                (Some(token), Some(first)) => {
+                    let words = format!(
+                        "a second start: the plan already starts in line {}",
+                        first.line
+                    );
+                    self.wrong(token, words);
                 }
+                (None, _) => {}
             }
-            let name = line
-                .name
-                .as_ref()
-                .map_or(String::new(), |name| name.text.clone());
-            let known = self.locations.iter().position(|known| *known == name);
-            if let (Some(known), Some(token)) = (known, &line.name) {
-                let words = format!(
-                    "there is a location '{name}' already, in line {}",
-                    lines_of[known].line
-                );
-                self.wrong(token, words);
-            }
-            self.locations.push(name);
-            lines_of.push(opening);
+            self.location_name(at, opening, line);
         }
-        match (lines.locations.first(), first_start) {
+        match (lines.locations.first(), start) {
             (None, _) => self.missing("the plan has no location"),
             (Some((opening, _)), None) => {
                 self.wrong(
@@ -199,33 +186,55 @@ impl Names {
         }
     }
 
-    /// The number of a clock or location, or a mistake that lists the known.
-    fn find(&mut self, token: &Token, what: &str, known: &[String]) -> Option<usize> {
-        let found = known.iter().position(|name| *name == token.text);
-        if found.is_none() {
-            let hint = guess(&token.text, known.iter().map(String::as_str));
-            let list = if hint.is_empty() && !known.is_empty() {
-                format!("; the {what}s are {}", known.join(", "))
-            } else {
-                hint
-            };
-            self.wrong(token, format!("there is no {what} '{}'{list}", token.text));
+    fn location_name(&mut self, at: usize, opening: &Token, line: &LocationLine) {
+        let name = line
+            .name
+            .as_ref()
+            .map_or(String::new(), |name| name.text.clone());
+        if let Some(token) = &line.name {
+            match self.first_of.get(&name) {
+                Some((_, first)) => {
+                    let words = format!("there is a location '{name}' already, in line {first}");
+                    self.wrong(token, words);
+                }
+                None => {
+                    self.first_of.insert(name.clone(), (at, opening.line));
+                }
+            }
         }
-        found
+        self.locations.push(name);
+    }
+
+    /// Notes an unknown name, with the nearest of the known ones or all.
+    fn unknown(&mut self, token: &Token, what: &str, known: &[String]) {
+        let hint = guess(&token.text, known.iter().map(String::as_str));
+        let list = if hint.is_empty() && !known.is_empty() {
+            let short: Vec<String> = known.iter().map(|name| shortened(name)).collect();
+            format!("; the {what}s are {}", short.join(", "))
+        } else {
+            hint
+        };
+        self.wrong(token, format!("there is no {what} '{}'{list}", token.text));
     }
 
     /// A clock; without a usable list of clocks nothing can be said about it.
     fn clock(&mut self, token: &Token) -> Option<usize> {
-        if self.clocks.is_empty() {
-            return None;
+        let found = self.clocks.iter().position(|name| *name == token.text);
+        if found.is_none() && !self.clocks.is_empty() {
+            let clocks = self.clocks.clone();
+            self.unknown(token, "clock", &clocks);
         }
-        let clocks = self.clocks.clone();
-        self.find(token, "clock", &clocks)
+        found
     }
 
     fn location(&mut self, token: &Token) -> Option<usize> {
-        let locations = self.locations.clone();
-        self.find(token, "location", &locations)
+        let found = self.first_of.get(&token.text).map(|(at, _)| *at);
+        if found.is_none() {
+            let first = self.locations.iter().take(MAX_LOCATIONS);
+            let first: Vec<String> = first.cloned().collect();
+            self.unknown(token, "location", &first);
+        }
+        found
     }
 
     /// A limit within the ceiling.
@@ -291,7 +300,7 @@ impl Names {
     /// The edges with their lines; none where ends or resets are in doubt.
     fn edges(&mut self, lines: &Lines) -> Vec<Option<(Edge, usize)>> {
         let mut edges = Vec::new();
-        let mut titles: Vec<&Token> = Vec::new();
+        let mut titles: HashMap<&str, usize> = HashMap::new();
         for (at, (opening, line)) in lines.edges.iter().enumerate() {
             if at >= MAX_EDGES {
                 self.wrong(
@@ -303,14 +312,12 @@ impl Names {
                 );
             }
             if let Some(name) = &line.name {
-                if let Some(first) = titles.iter().find(|title| title.text == name.text) {
-                    let words = format!(
-                        "there is an edge '{}' already, in line {}",
-                        name.text, first.line
-                    );
+                let first = *titles.entry(&name.text).or_insert(name.line);
+                if first != name.line {
+                    let words =
+                        format!("there is an edge '{}' already, in line {first}", name.text);
                     self.wrong(name, words);
                 }
-                titles.push(name);
             }
             edges.push(self.edge(line).map(|edge| (edge, opening.line)));
         }
@@ -348,31 +355,9 @@ impl Names {
     }
 
     fn guard(&mut self, bounds: &[Bound]) -> Vec<(u8, u8)> {
-        let mut ends: Vec<[Option<(u8, &Token)>; 2]> = vec![[None; 2]; self.clocks.len()];
-        for bound in bounds {
-            let (clock, limit) = (self.clock(&bound.clock), self.limit(&bound.number));
-            let (Some(clock), Some(limit)) = (clock, limit) else {
-                continue;
-            };
-            for (end, word) in [(End::Low, "lower"), (End::High, "upper")] {
-                if bound.end != end && bound.end != End::Both {
-                    continue;
-                }
-                let slot = &mut ends[clock][usize::from(end == End::High)];
-                if slot.replace((limit, &bound.number)).is_some() {
-                    self.wrong(
-                        &bound.clock,
-                        format!(
-                            "clock '{}' has two {word} limits on this edge",
-                            bound.clock.text
-                        ),
-                    );
-                }
-            }
-        }
         let ceiling = self.ceiling.unwrap_or(MAX_CEILING);
         let mut guard = Vec::new();
-        for (clock, [low, high]) in ends.into_iter().enumerate() {
+        for (clock, [low, high]) in self.ends(bounds).into_iter().enumerate() {
             if let (Some((low, _)), Some((high, token))) = (low, high) {
                 if low > high {
                     let name = self.clocks[clock].clone();
@@ -389,12 +374,61 @@ impl Names {
         guard
     }
 
-    /// Loops that leave a clock unreset, among the edges that are understood.
+    /// The low and the high that are given for each clock.
+    fn ends<'a>(&mut self, bounds: &'a [Bound]) -> Vec<[Option<(u8, &'a Token)>; 2]> {
+        let mut ends = vec![[None; 2]; self.clocks.len()];
+        for bound in bounds {
+            let (clock, limit) = (self.clock(&bound.clock), self.limit(&bound.number));
+            let (Some(clock), Some(limit)) = (clock, limit) else {
+                continue;
+            };
+            let sides = [(0, End::Low, "lower"), (1, End::High, "upper")];
+            for (side, end, word) in sides {
+                let is_meant = [end, End::Both].contains(&bound.end);
+                if is_meant && ends[clock][side].replace((limit, &bound.number)).is_some() {
+                    self.two_limits(&bound.clock, word);
+                }
+            }
+        }
+        ends
+    }
+
+    fn two_limits(&mut self, clock: &Token, which: &str) {
+        let words = format!("clock '{}' has two {which} limits on this edge", clock.text);
+        self.wrong(clock, words);
+    }
+
+    /// The real units, each said once.
+    fn units(&mut self, lines: &Lines) -> Units {
+        let mut units = Units::default();
+        let mut first: HashMap<&str, usize> = HashMap::new();
+        for (opening, quantity, value) in &lines.quantities {
+            let line = *first.entry(quantity.name()).or_insert(opening.line);
+            if line != opening.line {
+                let words = format!("the {} is already given in line {line}", quantity.name());
+                self.wrong(opening, words);
+            }
+            if let Some(value) = value {
+                units.set(*quantity, *value);
+            }
+        }
+        units
+    }
+
+    /// Loops that leave a clock unreset, among the edges that are understood
+    /// and not too many.
     fn loops(&mut self, edges: &[Option<(Edge, usize)>]) {
-        let known: Vec<&(Edge, usize)> = edges.iter().flatten().collect();
+        let drawable = |edge: &Edge| edge.from.max(edge.to) < MAX_LOCATIONS;
+        let known: Vec<&(Edge, usize)> = edges
+            .iter()
+            .take(MAX_EDGES)
+            .flatten()
+            .filter(|(edge, _)| drawable(edge))
+            .collect();
         let drawn: Vec<&Edge> = known.iter().map(|(edge, _)| edge).collect();
+        let locations = self.locations.len().min(MAX_LOCATIONS);
         for clock in 0..self.clocks.len() {
-            for found in unreset_loops(self.locations.len(), &drawn, clock) {
+            for found in unreset_loops(locations, &drawn, clock) {
                 let words = self.loop_words(clock, &found, &known);
                 let line = found
                     .iter()

@@ -6,6 +6,19 @@ use crate::curve::{Curve, Frame, Point};
 pub const FONT: f64 = 12.0;
 pub const LETTER: f64 = FONT * 0.61;
 pub const LINE: f64 = 15.0;
+/// The colours of texts and lines: each has a contrast of at least 4.5 to
+/// white and to the grounds below, as WCAG wants it of texts.
+pub const PLAIN: &str = "#333333";
+pub const FAINT: &str = "#595959";
+pub const START: &str = "#156b34";
+pub const FORBIDDEN: &str = "#b3261e";
+pub const TRAIL: &str = "#1f5fbf";
+pub const LOOP: &str = "#9a4a00";
+/// Grounds.
+pub const WHITE: &str = "#ffffff";
+pub const PLAIN_GROUND: &str = "#f6f6f6";
+pub const START_GROUND: &str = "#e9f6ee";
+pub const FORBIDDEN_GROUND: &str = "#fdecea";
 const FAMILY: &str = "DejaVu Sans Mono, Menlo, Consolas, monospace";
 const SPACE: &str = "http://www.w3.org/2000/svg";
 
@@ -36,6 +49,17 @@ impl Svg {
         self.body += &format!("<path d=\"M {a} C {b}, {c}, {d}\" fill=\"none\" {style}/>\n");
     }
 
+    /// A line through these points.
+    pub fn line(&mut self, points: &[Point], style: &str) {
+        let points = points
+            .iter()
+            .map(|point| format!("{:.1},{:.1}", point.x, point.y));
+        self.body += &format!(
+            "<polyline points=\"{}\" fill=\"none\" {style}/>\n",
+            points.collect::<Vec<String>>().join(" ")
+        );
+    }
+
     /// An arrowhead whose tip is here, pointing in a direction.
     pub fn arrow(&mut self, tip: Point, angle: f64, length: f64, colour: &str) {
         let wing = |side: f64| tip.towards(angle + side, -length);
@@ -64,13 +88,15 @@ impl Svg {
         self.body += "</g>\n";
     }
 
-    pub fn finished(self, width: f64, height: f64) -> String {
+    /// The whole drawing; who cannot see it is told what it shows.
+    pub fn finished(self, width: f64, height: f64, shows: &str) -> String {
         let size = format!("width=\"{width:.0}\" height=\"{height:.0}\"");
         let view = format!("viewBox=\"0 0 {width:.0} {height:.0}\" {size}");
         let font = format!("font-family=\"{FAMILY}\" font-size=\"{FONT}\"");
-        let ground = "<rect width=\"100%\" height=\"100%\" fill=\"white\"/>";
+        let role = format!("role=\"img\" aria-label=\"{}\"", escaped(shows));
+        let ground = format!("<rect width=\"100%\" height=\"100%\" fill=\"{WHITE}\"/>");
         let body = self.body;
-        format!("<svg xmlns=\"{SPACE}\" {view} {font}>\n{ground}\n{body}</svg>\n")
+        format!("<svg xmlns=\"{SPACE}\" {view} {font} {role}>\n{ground}\n{body}</svg>\n")
     }
 }
 
@@ -80,10 +106,12 @@ impl Default for Svg {
     }
 }
 
-fn escaped(words: &str) -> String {
+/// Words without signs that XML and HTML give a meaning.
+pub fn escaped(words: &str) -> String {
     words
         .replace('&', "&amp;")
         .replace('<', "&lt;")
         .replace('>', "&gt;")
         .replace('"', "&quot;")
+        .replace('\'', "&#39;")
 }

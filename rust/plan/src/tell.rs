@@ -1,4 +1,6 @@
-//! A trail told in words, step by step.
+//! A trail told in words, step by step; as people tell it, in `story`.
+
+pub mod story;
 
 use crate::trail::{start_of, Kind, Reading, State, Step};
 use crate::Plan;
@@ -20,10 +22,7 @@ pub fn region_words(plan: &Plan, region: &Region) -> String {
 
 /// How far the clocks between two whole numbers are, one against the other.
 fn fraction_words(plan: &Plan, region: &Region) -> String {
-    let mut between: Vec<usize> = (0..plan.clocks.len())
-        .filter(|&at| region.rank[at] > 0)
-        .collect();
-    between.sort_by_key(|&at| region.rank[at]);
+    let between = by_fraction(plan, region);
     if between.len() < 2 {
         return String::new();
     }
@@ -37,6 +36,58 @@ fn fraction_words(plan: &Plan, region: &Region) -> String {
         words += &format!(" {sign} {}", plan.clocks[pair[1]]);
     }
     format!(" (fractions: {words})")
+}
+
+/// The clocks of a region for people: how each stands, and by how much one is
+/// ahead of the other where that is not seen from it.
+pub fn clock_words(plan: &Plan, region: &Region) -> String {
+    let clocks = plan.clocks.iter().enumerate();
+    let each = clocks.map(|(at, name)| match (region.whole[at], region.rank[at]) {
+        (whole, 0) => format!("{name} at {whole}"),
+        (whole, _) => format!("{name} between {whole} and {}", whole + 1),
+    });
+    let between = by_fraction(plan, region);
+    let ahead = between
+        .windows(2)
+        .map(|pair| ahead_words(plan, region, pair[0], pair[1]));
+    each.chain(ahead).collect::<Vec<String>>().join(", ")
+}
+
+/// By how much the one of two clocks is ahead; the fraction of the first is
+/// the smaller one, if they are not equal.
+fn ahead_words(plan: &Plan, region: &Region, low: usize, high: usize) -> String {
+    let (one, other) = (&plan.clocks[low], &plan.clocks[high]);
+    let whole = |clock: usize| i32::from(region.whole[clock]);
+    let more = whole(high) - whole(low);
+    let equal = region.rank[low] == region.rank[high];
+    match (more, equal) {
+        (0, true) => format!("{one} and {other} equal"),
+        (1.., true) => format!("{other} {more} ahead of {one}"),
+        (_, true) => format!("{one} {} ahead of {other}", -more),
+        (0.., false) => format!("{other} ahead of {one} by {}", span_words(more)),
+        (_, false) => format!("{one} ahead of {other} by {}", span_words(-more - 1)),
+    }
+}
+
+fn span_words(from: i32) -> String {
+    match from {
+        0 => "less than 1".to_string(),
+        _ => format!("{from} to {}", from + 1),
+    }
+}
+
+/// The clocks between two whole numbers, by their fractions.
+fn by_fraction(plan: &Plan, region: &Region) -> Vec<usize> {
+    let clocks = 0..plan.clocks.len();
+    let mut between: Vec<usize> = clocks.filter(|&at| region.rank[at] > 0).collect();
+    between.sort_by_key(|&at| region.rank[at]);
+    between
+}
+
+/// The name of an edge, or its number.
+pub fn edge_name(plan: &Plan, number: usize) -> String {
+    let name = plan.edges[number].name.clone();
+    name.unwrap_or_else(|| format!("edge {number}"))
 }
 
 /// The whole trail, one line per step; a flaw comes last.
@@ -104,4 +155,35 @@ fn touch_words(plan: &Plan, number: &str, to: State, walk: &[Step], indent: &str
         "{words}\n{deeper}and so on for ever; the trail goes on from {}",
         region_words(plan, &to.region)
     )
+}
+
+#[cfg(test)]
+mod tests {
+    use super::*;
+    use crate::resolve::read_text;
+
+    #[test]
+    fn clocks_for_people() {
+        let plan = read_text("clocks a b c\nceiling 4\nlocation home start\n").unwrap();
+        let words = |whole, rank| clock_words(&plan, &Region { whole, rank });
+        let at = "a at 0, b at 1, c between 2 and 3";
+        assert_eq!(words([0, 1, 2], [0, 0, 1]), at);
+        let between = "a between 0 and 1, b between 0 and 1, c between 2 and 3";
+        for (rank, ahead) in [
+            ([1, 1, 1], "a and b equal, c 2 ahead of b"),
+            ([1, 2, 2], "b ahead of a by less than 1, c 2 ahead of b"),
+            (
+                [2, 1, 3],
+                "a ahead of b by less than 1, c ahead of a by 2 to 3",
+            ),
+            (
+                [2, 3, 1],
+                "c ahead of a by 1 to 2, b ahead of a by less than 1",
+            ),
+        ] {
+            assert_eq!(words([0, 0, 2], rank), format!("{between}, {ahead}"));
+        }
+        let words = words([1, 0, 0], [2, 1, 0]);
+        assert!(words.ends_with("c at 0, a ahead of b by 1 to 2"), "{words}");
+    }
 }

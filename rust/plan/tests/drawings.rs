@@ -1,15 +1,29 @@
-//! Drawings: nothing overlaps, and everything is there.
+//! Drawings: nothing overlaps, everything is there, and it can be read.
 
 mod common;
+mod contrast;
 
 use common::*;
+use contrast::{attribute, contrast, contrasts, LEAST};
 use plan::bytes::{decode, encode};
 use plan::curve::Frame;
-use plan::draw::{draw, layout_of};
+use plan::draw::{layout_of, Heading};
 use plan::layout::{layout, Layout, Sketch, SketchEdge};
-use plan::trail::read_trail;
+use plan::trail::{read_trail, Step};
 use plan::Plan;
 use second::generate::generate;
+
+/// A drawing without a verdict.
+fn draw(plan: &Plan, title: &str, trail: Option<&[Step]>) -> String {
+    let verdict = None;
+    plan::draw::draw(plan, &Heading { title, verdict }, trail)
+}
+
+/// The trail that the second checker writes, if the plan is unsafe.
+fn trail_of(plan: &Plan) -> Option<Vec<Step>> {
+    let reading = read_trail(plan, &evidence(&encode(plan)));
+    reading.flaw.is_none().then_some(reading.steps)
+}
 
 fn assert_clear(layout: &Layout, what: &str) {
     let frames: Vec<&Frame> = layout.locations.iter().chain(&layout.labels).collect();
@@ -38,14 +52,9 @@ fn labels_keep_apart() {
 fn labels_keep_apart_under_trails() {
     for kind in ["tiny", "small", "drift"] {
         for seed in 0..40 {
-            let bytes = generate(seed, kind).unwrap();
-            let plan = decode(&bytes).unwrap();
-            let reading = read_trail(&plan, &evidence(&bytes));
-            if reading.flaw.is_none() {
-                assert_clear(
-                    &layout_of(&plan, Some(&reading.steps)),
-                    &format!("{kind} {seed}"),
-                );
+            let plan = decode(&generate(seed, kind).unwrap()).unwrap();
+            if let Some(steps) = trail_of(&plan) {
+                assert_clear(&layout_of(&plan, Some(&steps)), &format!("{kind} {seed}"));
             }
         }
     }
@@ -127,26 +136,102 @@ fn a_trail_is_numbered() {
     assert_eq!(reading.flaw, None);
     let svg = draw(&plan, "loop", Some(&reading.steps));
     // By hand from the numbers of 01: two waits, a jump, a wait, a jump, a
-    // touch with a loop of ten steps, a face, a jump.
+    // touch with a loop of edges 2 and 1, a face, a jump.
     let trail = [
         ">wait 1, 2<",
         ">step 3<",
         ">wait 4<",
         ">step 5<",
         ">drift 6<",
+        ">round loop A<",
         ">rim 7<",
         ">step 8<",
     ];
-    let walk = [
-        ">loop 6: 1, 2<",
-        ">loop 6: 3<",
-        ">loop 6: 4-9<",
-        ">loop 6: 10<",
-    ];
-    for words in trail.iter().chain(&walk) {
-        assert!(svg.contains(words), "{words}");
+    for words in trail {
+        assert_eq!(count(&svg, words), 1, "{words}");
     }
-    assert!(!draw(&plan, "loop", None).contains("loop 6"));
+    assert_eq!(count(&svg, ">loop A<"), 2);
+    assert!(!draw(&plan, "loop", None).contains("loop A"));
+}
+
+/// The texts of a drawing, one after the other.
+fn texts(svg: &str) -> String {
+    let tags = svg.split("<text ").skip(1);
+    let texts = tags.map(|tag| &tag[tag.find('>').unwrap() + 1..tag.find('<').unwrap()]);
+    texts.collect::<Vec<&str>>().join(" ")
+}
+
+#[test]
+fn loops_are_told() {
+    let plan = example("poll");
+    let told = texts(&draw(&plan, "poll", trail_of(&plan).as_deref()));
+    for words in [
+        "loop A, steps 4-6: by refresh to &#39;shown&#39;, by poll to &#39;waiting&#39;; round \
+         this loop, a hair later each time, until the clocks stand so: panel between 2 and 3, \
+         repeater between 2 and 3, panel and repeater equal",
+        "a loop: edges that lead round",
+        "drift: no crystal keeps time exactly",
+    ] {
+        assert!(told.contains(words), "{words}: {told}");
+    }
+    let quiet = texts(&draw(&plan, "poll", None));
+    assert!(!quiet.contains("loop") && !quiet.contains("drift"));
+}
+
+#[test]
+fn the_verdict_is_on_the_drawing() {
+    let heading = Heading {
+        title: "poll",
+        verdict: Some("UNSAFE by drift"),
+    };
+    let svg = plan::draw::draw(&example("poll"), &heading, None);
+    assert!(
+        svg.contains(" font-size=\"16.2\">UNSAFE by drift<"),
+        "{svg}"
+    );
+}
+
+#[test]
+fn texts_stand_out() {
+    assert!(contrast("#777777", "#ffffff") < LEAST && contrast("#767676", "#ffffff") > LEAST);
+    for name in EXAMPLES {
+        let plan = example(name);
+        let found = contrasts(&draw(&plan, name, trail_of(&plan).as_deref()));
+        assert!(!found.is_empty());
+        for (text, contrast) in found {
+            assert!(contrast >= LEAST, "{name}: {contrast} {text}");
+        }
+    }
+}
+
+/// Millimetres and points of print, in the units of a drawing.
+const MILLIMETRE: f64 = 96.0 / 25.4;
+const POINT: f64 = 96.0 / 72.0;
+
+/// The size of the letters, in points, if a drawing is made to fit on a page
+/// of A4 with margins of 15 and 20 millimetres, below a heading.
+fn letters_on_a4(svg: &str) -> f64 {
+    let number = |name| attribute(svg, name).unwrap().parse::<f64>().unwrap();
+    let across = (210.0 - 2.0 * 15.0) * MILLIMETRE / number("width");
+    let down = 240.0 * MILLIMETRE / number("height");
+    number("font-size") * across.min(down).min(1.0) / POINT
+}
+
+#[test]
+fn letters_can_be_read_on_a4() {
+    for name in EXAMPLES {
+        let plan = example(name);
+        let size = letters_on_a4(&draw(&plan, name, trail_of(&plan).as_deref()));
+        let least = if name == "largest" { 7.0 } else { 9.0 };
+        assert!(size >= least, "{name}: {size}");
+    }
+    for kind in ["small", "middle", "largest", "clocks-3", "drift"] {
+        for seed in 0..30 {
+            let plan = decode(&generate(seed, kind).unwrap()).unwrap();
+            let size = letters_on_a4(&draw(&plan, "", None));
+            assert!(size >= 5.5, "{kind} {seed}: {size}");
+        }
+    }
 }
 
 /// Names with signs that SVG gives a meaning do not exist, but titles do.

@@ -35,7 +35,7 @@ edge blank ringing
     let expected = [
         "1:12 there are two clocks 'x'",
         "2:9 the ceiling is 7, but it can only be 1 to 4",
-        "3:1 a line begins with clocks, ceiling, location or edge, not 'locaton'; did you mean 'location'?",
+        "3:1 a line begins with clocks, ceiling, location, edge, unit, crystal or bit rate, not 'locaton'; did you mean 'location'?",
         "4:23 there is no clock 'w'; the clocks are x, y",
         "5:16 after the name of a location come start, forbidden or stay, not 'forbiden'; did you mean 'forbidden'?",
         "6:6 there is no location 'ringin'; did you mean 'ringing'?",
@@ -249,6 +249,85 @@ fn spellings() {
     }
     assert_eq!(first.edges[0].guard, [(1, 2), (0, 0)]);
     assert_eq!(first.locations[1].stay, [Some(1), Some(2)]);
+}
+
+#[test]
+fn real_units() {
+    assert_eq!(
+        one("unit"),
+        "5:5 a number is missing here, such as: unit 20 ms"
+    );
+    assert_eq!(
+        one("unit ms"),
+        "5:6 a number is missing here, such as: unit 20 ms"
+    );
+    assert_eq!(
+        one("unit 20"),
+        "5:8 the measure is missing: it is s, ms, us or ns"
+    );
+    assert_eq!(
+        one("unit 20 parsec"),
+        "5:9 the measure cannot be 'parsec': it is s, ms, us or ns"
+    );
+    assert_eq!(
+        one("unit 20min"),
+        "5:6 the measure cannot be 'min': it is s, ms, us or ns"
+    );
+    assert_eq!(
+        one("unit 0 ms"),
+        "5:6 a unit lasts 1 ns to 86400 s, in whole nanoseconds, not '0'"
+    );
+    assert_eq!(one("unit 20 ms each"), "5:12 nothing may follow the unit");
+    assert_eq!(
+        one("crystal 1.2345 ppm"),
+        "5:9 crystals are good to 0.001 to 100000 ppm, in whole thousandths, not '1.2345'"
+    );
+    assert_eq!(
+        one("bit 19200"),
+        "5:5 'rate' is missing here, such as: bit rate 19200"
+    );
+    assert_eq!(
+        one("bit rate 19200 baud"),
+        "5:16 the measure cannot be 'baud': it is none, since it counts bits a second"
+    );
+    assert_eq!(
+        one("crystal 50 ppm\ncrystal 20ppm"),
+        "6:1 the crystal is already given in line 5"
+    );
+}
+
+/// Only the first mistakes are shown, and of a long line the part that counts.
+#[test]
+fn a_long_list_is_cut() {
+    let text = "edge\n".repeat(1_000);
+    let found = read_text(&text).unwrap_err();
+    let shown = all_shown(&found, "f", &text);
+    assert_eq!(shown.matches("f, line").count(), 20);
+    let (all, rest) = (found.len(), found.len() - 20);
+    assert!(shown.ends_with(&format!("and {rest} more, {all} mistakes in all\n")));
+    let long = format!("{}?{}", "# ".repeat(3), "x".repeat(5_000));
+    let text = format!("clocks {}\n", long.replace("# ", "x "));
+    let shown = all_shown(&read_text(&text).unwrap_err(), "f", &text);
+    assert!(shown.lines().all(|line| line.chars().count() < 500));
+    assert!(shown.contains("\n    clocks x x x ?xxx"));
+}
+
+/// A megabyte of lines that a plan has too many of is read in linear time: ten
+/// times as much takes about ten times as long.
+#[test]
+fn time_is_linear() {
+    let time = |lines: usize| {
+        let names = (0..lines).map(|at| format!("location a{at}\nedge x{at}: b{at} -> c{at}\n"));
+        let text = format!("clocks x\nceiling 1\n{}", names.collect::<String>());
+        let began = std::time::Instant::now();
+        let found = read_text(&text).unwrap_err();
+        assert!(all_shown(&found, "f", &text).len() < 10_000);
+        began.elapsed()
+    };
+    // The least of three, since others use the machine too.
+    let least = |lines: usize| (0..3).map(|_| time(lines)).min().unwrap();
+    let (short, long) = (least(3_000), least(30_000));
+    assert!(long < short * 40, "{short:?} {long:?}");
 }
 
 #[test]

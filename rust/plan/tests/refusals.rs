@@ -82,30 +82,32 @@ fn about_a_model() {
     for refusal in 1..=7 {
         for seed in 0..40 {
             let model = generate(seed, &format!("refused-{refusal}")).unwrap();
-            let here = about(refusal, &model, None);
+            let flaw = decode(&model).expect_err("a refused model");
+            let here = about(refusal, Err(&flaw), None);
             assert!(
                 here.starts_with("here: ") && !here.contains("no such flaw"),
                 "{here}"
             );
-            let other = about(refusal % 7 + 1, &model, None);
+            let other = about(refusal % 7 + 1, Err(&flaw), None);
             assert!(
                 other.contains(&format!("refused by {refusal}: ")),
                 "{other}"
             );
         }
     }
-    let tiny = plan::bytes::encode(&example("tiny"));
+    let tiny = &example("tiny");
     assert_eq!(
-        about(7, &tiny, None),
-        "here: this model has no flaw 7, nor any other that reading shows\n"
+        about(7, Ok(tiny), None),
+        "here: this plan has no flaw 7, nor any other that reading shows\n"
     );
-    assert!(about(13, &tiny, None).contains("give the evidence too"));
+    assert!(about(13, Ok(tiny), None).contains("give the evidence too"));
     assert_eq!(
-        about(8, &plan::bytes::encode(&example("largest")), None),
-        "here: this model has 15816 states; the programs lend scratch for 4000, so they refuse it\n"
+        about(8, Ok(&example("largest")), None),
+        "here: this plan has 15816 states; the programs judge and evidence_bytes lend scratch for \
+         4000, so they refuse it\n"
     );
     assert_eq!(
-        about(9, &tiny, None),
+        about(9, Ok(tiny), None),
         "here: the marks take 3 bytes; a sheet takes at most 4\n"
     );
 }

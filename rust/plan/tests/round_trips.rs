@@ -6,6 +6,7 @@ use common::*;
 use plan::bytes::{decode, encode};
 use plan::print::write_text;
 use plan::resolve::read_text;
+use plan::units::Quantity;
 use plan::Plan;
 use second::generate::{generate, KINDS};
 use second::random::Random;
@@ -31,6 +32,12 @@ fn renamed(mut plan: Plan, seed: u64) -> Plan {
     }
     for (at, edge) in plan.edges.iter_mut().enumerate() {
         edge.name = (at % 3 == 0).then(|| name(at));
+    }
+    for quantity in Quantity::ALL {
+        if random.below(3) > 0 {
+            plan.units
+                .set(quantity, 1 + random.bits() % quantity.most());
+        }
     }
     plan
 }

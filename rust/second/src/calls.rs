@@ -1,16 +1,19 @@
-//! The calls: judge, marks, evidence, check. Scratch is given as the four
-//! lengths alone, since this checker uses memory of its own; they decide
-//! only about refusal 8. Output is written on success and not otherwise.
+//! The calls: judge, marks, evidence, check, and beyond document 01 the margin
+//! of our sheet and the harm of our trail. Scratch is given as the four lengths
+//! alone, since this checker uses memory of its own; they decide only about
+//! refusal 8. Output is written on success and not otherwise.
 
 use crate::check::check;
 use crate::components::Components;
 use crate::graph::Graph;
+use crate::harm::Bound;
+use crate::margin::by_sheet;
 use crate::marking::{distance_to_forbidden, is_unsafe, marked_set};
 use crate::model::{read_model, Model};
 use crate::refusal::*;
 use crate::regions::Regions;
 use crate::sheet::our_sheet;
-use crate::trail::{our_trail, spell_trail};
+use crate::trail::{our_trail, spell_trail, TrailStep};
 
 /// The lengths of the four scratch slices.
 pub type Scratch = [usize; 4];
@@ -22,6 +25,24 @@ pub struct Judgement {
     pub states: usize,
     /// Marked states if safe, steps of our trail if unsafe.
     pub count: usize,
+}
+
+/// How slight a drift is harmless for ever.
+#[derive(Clone, Copy, Debug, PartialEq, Eq)]
+pub enum SheetMargin {
+    /// Every drift e/D with margin*e < D is.
+    Safe { states: usize, margin: u32 },
+    /// None is known to be.
+    Unsafe { states: usize },
+}
+
+/// How soon drift does harm.
+#[derive(Clone, Copy, Debug, PartialEq, Eq)]
+pub enum Harm {
+    /// Slight drift never does.
+    Safe { states: usize },
+    /// Within so many jumps.
+    Within { states: usize, bound: Bound },
 }
 
 /// The number of states of a model (S).
@@ -75,9 +96,7 @@ pub fn evidence_of(graph: &Graph) -> (Judgement, Vec<u8>) {
     let marked = marked_set(graph, &components);
     let is_unsafe = is_unsafe(graph, &marked);
     let (count, bytes) = if is_unsafe {
-        let reversed = graph.reversed();
-        let distance = distance_to_forbidden(graph, &components, &reversed);
-        let trail = our_trail(graph, &components, &reversed, &distance);
+        let trail = trail_of(graph, &components);
         (trail.len(), spell_trail(graph, &trail))
     } else {
         (
@@ -93,6 +112,13 @@ pub fn evidence_of(graph: &Graph) -> (Judgement, Vec<u8>) {
         },
         bytes,
     )
+}
+
+/// Our trail of an unsafe model.
+fn trail_of(graph: &Graph, components: &Components) -> Vec<TrailStep> {
+    let reversed = graph.reversed();
+    let distance = distance_to_forbidden(graph, components, &reversed);
+    our_trail(graph, components, &reversed, &distance)
 }
 
 /// Writes our sheet or trail; gives the verdict (true for unsafe) and the
@@ -124,4 +150,30 @@ pub fn judge_and_write(
 /// Checks evidence: 1 for a passing sheet, 2 for a passing trail.
 pub fn check_evidence(model: &[u8], evidence: &[u8], scratch: Scratch) -> Result<u32, Refusal> {
     check(&accept(model, scratch)?, evidence)
+}
+
+/// The margin of the sheet that we write for a safe model.
+pub fn sheet_margin(model: &[u8], scratch: Scratch) -> Result<SheetMargin, Refusal> {
+    let graph = accept(model, scratch)?;
+    let components = Components::new(&graph);
+    let marked = marked_set(&graph, &components);
+    let states = graph.states();
+    if is_unsafe(&graph, &marked) {
+        return Ok(SheetMargin::Unsafe { states });
+    }
+    let margin = by_sheet(&graph, &components, &marked);
+    Ok(SheetMargin::Safe { states, margin })
+}
+
+/// The harm of the trail that we write for an unsafe model.
+pub fn harm(model: &[u8], scratch: Scratch) -> Result<Harm, Refusal> {
+    let graph = accept(model, scratch)?;
+    let components = Components::new(&graph);
+    let marked = marked_set(&graph, &components);
+    let states = graph.states();
+    if !is_unsafe(&graph, &marked) {
+        return Ok(Harm::Safe { states });
+    }
+    let bound = Bound::of_trail(&graph, &trail_of(&graph, &components));
+    Ok(Harm::Within { states, bound })
 }

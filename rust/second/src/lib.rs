@@ -2,9 +2,11 @@
 //!
 //! The modules follow the order of that document: numbers, models, regions,
 //! steps, the marked set, evidence, calls. `limits` has the limits of all of
-//! them. `brute` does everything again by naive definitions; `generate`,
-//! `mutate` and `other` make inputs for comparisons, `cases` those of a proved
-//! program with their answers.
+//! them. Beyond it, `margin` and `harm` tell how slight a drift is harmless and
+//! how soon another does harm. `brute` does everything again by naive
+//! definitions, `widened` searches runs without regions; `generate`, `mutate`
+//! and `other` make inputs for comparisons, `cases` those of a proved program
+//! with their answers.
 
 // Loops over clocks and states index several lists at once.
 #![allow(clippy::needless_range_loop)]
@@ -18,7 +20,9 @@ pub mod components;
 pub mod draft;
 pub mod generate;
 pub mod graph;
+pub mod harm;
 pub mod limits;
+pub mod margin;
 pub mod marking;
 pub mod model;
 pub mod mutate;
@@ -33,6 +37,7 @@ pub mod trail;
 pub mod widened;
 
 pub use calls::{check_evidence, judge, marks, write_evidence, Judgement};
+pub use calls::{harm, sheet_margin, Harm, SheetMargin};
 pub use model::{read_model, Edge, Location, Model};
 pub use numbers::number_at;
 pub use refusal::Refusal;

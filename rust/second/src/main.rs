@@ -6,7 +6,8 @@ use second::calls::{check_evidence, marks};
 use second::cases::{answers, cases};
 use second::generate::{generate, shares, KINDS};
 use second::mutate;
-use second::program::{bytes_of_text, evidence_bytes, judge_lines, refusal_line, OUTPUT, SCRATCH};
+use second::program::{bytes_of_text, evidence_bytes, harm_lines, judge_lines, margin_lines};
+use second::program::{refusal_line, OUTPUT, SCRATCH};
 use std::io::{Read, Write};
 use std::process::ExitCode;
 
@@ -16,6 +17,8 @@ fn usage() -> String {
 second judge FILE|- [SCRATCH]            three lines, or the refusal line
 second evidence FILE|- [SCRATCH]         evidence bytes, or the refusal line
 second marks FILE|- [SCRATCH]            one byte per state, 1 or 0, or the refusal line
+second margin FILE|- [SCRATCH]           three lines with our sheet's margin, or the refusal line
+second harm FILE|- [SCRATCH]             three lines with our trail's harm, or the refusal line
 second check MODEL EVIDENCE [SCRATCH]    passes 1, passes 2, or the refusal line
 second generate SEED KIND                a model's bytes
 second generate --kinds                  the kinds
@@ -49,55 +52,27 @@ fn main() -> ExitCode {
 fn run(mut arguments: Vec<String>) -> Result<Vec<u8>, String> {
     let mut scratch = take_flag(&mut arguments, "--scratch")?.unwrap_or(SCRATCH);
     let output = take_flag(&mut arguments, "--output")?.unwrap_or(OUTPUT);
-    let words: Vec<&str> = arguments.iter().map(String::as_str).collect();
+    let mut words: Vec<&str> = arguments.iter().map(String::as_str).collect();
     // A last argument may give the scratch length too.
-    let words = match words.as_slice() {
-        [command @ ("judge" | "evidence" | "marks" | "answers"), file, length] => {
-            scratch = number(length)?;
-            vec![*command, *file]
-        }
-        ["check", model, evidence, length] => {
-            scratch = number(length)?;
-            vec!["check", *model, *evidence]
-        }
-        _ => words,
+    let files = match words.first() {
+        Some(&("judge" | "evidence" | "marks" | "margin" | "harm" | "answers")) => 1,
+        Some(&"check") => 2,
+        _ => usize::MAX,
     };
+    if words.len().checked_sub(2) == Some(files) {
+        scratch = number(words.pop().expect("a last argument"))?;
+    }
     match words.as_slice() {
         ["judge", file] => Ok(judge_lines(&read(file)?, scratch, output).into_bytes()),
         ["evidence", file] => Ok(evidence_bytes(&read(file)?, scratch, output)),
-        ["marks", file] => {
-            let mut out = vec![0; output];
-            Ok(match marks(&read(file)?, [scratch; 4], &mut out) {
-                Ok(states) => out[..states].to_vec(),
-                Err(refusal) => refusal_line(refusal).into_bytes(),
-            })
-        }
+        ["marks", file] => Ok(marks_bytes(&read(file)?, scratch, output)),
+        ["margin", file] => Ok(margin_lines(&read(file)?, scratch).into_bytes()),
+        ["harm", file] => Ok(harm_lines(&read(file)?, scratch).into_bytes()),
         ["check", model, evidence] => {
-            Ok(
-                match check_evidence(&read(model)?, &read(evidence)?, [scratch; 4]) {
-                    Ok(passes) => format!("passes {passes}\n"),
-                    Err(refusal) => refusal_line(refusal),
-                }
-                .into_bytes(),
-            )
+            Ok(check_line(&read(model)?, &read(evidence)?, scratch).into_bytes())
         }
-        ["generate", "--kinds"] => Ok(KINDS.map(|kind| format!("{kind}\n")).concat().into_bytes()),
-        ["generate", "--shares"] => Ok(shares(1_000).into_bytes()),
-        ["generate", "--shares", count] => Ok(shares(number(count)?).into_bytes()),
-        ["generate", seed, kind] => generate(number(seed)? as u64, kind)
-            .ok_or(format!("no kind {kind}; see generate --kinds")),
-        ["mutate", "--kinds"] => Ok(mutate::KINDS
-            .map(|(kind, what)| format!("{kind}: {what}\n"))
-            .concat()
-            .into_bytes()),
-        ["mutate", seed, model, evidence] => {
-            Ok(mutate::mutate(number(seed)? as u64, &read(model)?, &read(evidence)?).1)
-        }
-        ["mutate", seed, model, evidence, kind] => {
-            mutate::mutate_as(number(seed)? as u64, kind, &read(model)?, &read(evidence)?).ok_or(
-                format!("the change {kind} does not apply; see mutate --kinds"),
-            )
-        }
+        ["generate", rest @ ..] => generated(rest),
+        ["mutate", rest @ ..] => mutated(rest),
         ["cases"] => Ok(cases().into_bytes()),
         ["answers", file] => {
             let text = String::from_utf8(read(file)?).map_err(|_| format!("{file}: not text"))?;
@@ -106,6 +81,50 @@ fn run(mut arguments: Vec<String>) -> Result<Vec<u8>, String> {
         ["bench"] => {
             bench(|line| println!("{line}"));
             Ok(Vec::new())
+        }
+        _ => Err(usage()),
+    }
+}
+
+fn marks_bytes(model: &[u8], scratch: usize, output: usize) -> Vec<u8> {
+    let mut out = vec![0; output];
+    match marks(model, [scratch; 4], &mut out) {
+        Ok(states) => out[..states].to_vec(),
+        Err(refusal) => refusal_line(refusal).into_bytes(),
+    }
+}
+
+fn check_line(model: &[u8], evidence: &[u8], scratch: usize) -> String {
+    match check_evidence(model, evidence, [scratch; 4]) {
+        Ok(passes) => format!("passes {passes}\n"),
+        Err(refusal) => refusal_line(refusal),
+    }
+}
+
+fn generated(words: &[&str]) -> Result<Vec<u8>, String> {
+    match words {
+        ["--kinds"] => Ok(KINDS.map(|kind| format!("{kind}\n")).concat().into_bytes()),
+        ["--shares"] => Ok(shares(1_000).into_bytes()),
+        ["--shares", count] => Ok(shares(number(count)?).into_bytes()),
+        [seed, kind] => generate(number(seed)? as u64, kind)
+            .ok_or(format!("no kind {kind}; see generate --kinds")),
+        _ => Err(usage()),
+    }
+}
+
+fn mutated(words: &[&str]) -> Result<Vec<u8>, String> {
+    match words {
+        ["--kinds"] => Ok(mutate::KINDS
+            .map(|(kind, what)| format!("{kind}: {what}\n"))
+            .concat()
+            .into_bytes()),
+        [seed, model, evidence] => {
+            Ok(mutate::mutate(number(seed)? as u64, &read(model)?, &read(evidence)?).1)
+        }
+        [seed, model, evidence, kind] => {
+            mutate::mutate_as(number(seed)? as u64, kind, &read(model)?, &read(evidence)?).ok_or(
+                format!("the change {kind} does not apply; see mutate --kinds"),
+            )
         }
         _ => Err(usage()),
     }

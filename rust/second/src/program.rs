@@ -1,6 +1,8 @@
-//! The two programs of document 01, and the text form of byte files.
+//! The two programs of document 01, what the command tells of drift, and the
+//! text form of byte files.
 
-use crate::calls::{judge_and_write, write_evidence, Judgement};
+use crate::calls::{harm, judge_and_write, sheet_margin, write_evidence};
+use crate::calls::{Harm, Judgement, SheetMargin};
 use crate::refusal::Refusal;
 
 /// What the programs lend unless told otherwise.
@@ -17,15 +19,41 @@ pub fn judge_lines(model: &[u8], scratch: usize, output: usize) -> String {
 }
 
 fn three_lines(judgement: &Judgement) -> String {
-    let (verdict, counted) = if judgement.is_unsafe {
-        ("unsafe", "steps")
-    } else {
-        ("safe", "in")
-    };
-    format!(
-        "verdict {verdict}\nstates {}\n{counted} {}\n",
-        judgement.states, judgement.count
+    let counted = if judgement.is_unsafe { "steps" } else { "in" };
+    lines(
+        judgement.is_unsafe,
+        judgement.states,
+        &format!("{counted} {}", judgement.count),
     )
+}
+
+fn lines(is_unsafe: bool, states: usize, third: &str) -> String {
+    let verdict = if is_unsafe { "unsafe" } else { "safe" };
+    format!("verdict {verdict}\nstates {states}\n{third}\n")
+}
+
+/// Three lines with the margin of our sheet, or the refusal line.
+pub fn margin_lines(model: &[u8], scratch: usize) -> String {
+    match sheet_margin(model, [scratch; 4]) {
+        Ok(SheetMargin::Safe { states, margin }) => {
+            lines(false, states, &format!("margin {margin}"))
+        }
+        Ok(SheetMargin::Unsafe { states }) => lines(true, states, "margin none"),
+        Err(refusal) => refusal_line(refusal),
+    }
+}
+
+/// Three lines with the jumps within which a drift of 1/q does harm, or the
+/// refusal line.
+pub fn harm_lines(model: &[u8], scratch: usize) -> String {
+    match harm(model, [scratch; 4]) {
+        Ok(Harm::Safe { states }) => lines(false, states, "jumps none"),
+        Ok(Harm::Within { states, bound }) => {
+            let jumps = format!("jumps {} + {} q", bound.base, bound.rate);
+            lines(true, states, &jumps)
+        }
+        Err(refusal) => refusal_line(refusal),
+    }
 }
 
 pub fn refusal_line(refusal: Refusal) -> String {

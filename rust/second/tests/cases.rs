@@ -84,12 +84,14 @@ fn every_answer_of_an_operation_comes_up() {
             rest.is_some_and(|rest| !rest.starts_with(|c: char| c.is_ascii_digit()))
         })
     };
-    for (word, most) in [("judge", 8), ("marks", 9), ("write", 9), ("margin", 7)] {
+    let lent_scratch = [("judge", 8), ("sheet_margin", 8), ("harm", 8)];
+    let others = [("marks", 9), ("write", 9), ("margin", 7)];
+    for (word, most) in lent_scratch.into_iter().chain(others) {
         for refusal in 0..=most {
             assert!(gives(word, &refusal.to_string()), "{word} {refusal}");
         }
     }
-    for word in ["judge", "write"] {
+    for word in ["judge", "write", "sheet_margin", "harm"] {
         assert!(gives(word, "0 0") && gives(word, "0 1"));
     }
 }

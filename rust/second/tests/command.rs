@@ -58,6 +58,30 @@ fn judge_and_evidence() {
 }
 
 #[test]
+fn margin_and_harm() {
+    assert_eq!(
+        answer(&["margin", "-"], &ROW),
+        b"verdict safe\nstates 3\nmargin 2\n"
+    );
+    assert_eq!(
+        answer(&["margin", "-"], &LOOP),
+        b"verdict unsafe\nstates 132\nmargin none\n"
+    );
+    assert_eq!(
+        answer(&["harm", "-"], &LOOP),
+        b"verdict unsafe\nstates 132\njumps 15 + 26 q\n"
+    );
+    assert_eq!(
+        answer(&["harm", "-"], &ROW),
+        b"verdict safe\nstates 3\njumps none\n"
+    );
+    for command in ["margin", "harm"] {
+        assert_eq!(answer(&[command, "-"], &ROW[..7]), b"refused 1\n");
+        assert_eq!(answer(&[command, "-", "131"], &LOOP), b"refused 8\n");
+    }
+}
+
+#[test]
 fn more_states_than_the_scratch() {
     let three_locations = [1, 3, 4, 3, 0, 0, 0, 0, 0, 0, 0, 0, 0, 0, 0, 0, 0, 0];
     assert_eq!(answer(&["judge", "-"], &three_locations), b"refused 8\n");
@@ -117,7 +141,8 @@ fn cases_and_answers() {
     assert!(printed.starts_with("- line\n#"));
     assert!(printed.contains("\n1,5,3,1: 0 1\n"));
     assert!(printed.contains("\njudge: 0 1 132 8, zero 132 132 132 132\n"));
-    let row = b"- row\n1,1,1,1,0,0,0,0\n1,5,3,1\njudge\njudge 3,3,3,3\nmarks 4,3,3,3,3\n";
+    let row = b"- row\n1,1,1,1,0,0,0,0\n1,5,3,1\njudge\njudge 3,3,3,3\nmarks 4,3,3,3,3\n\
+        sheet_margin\nsheet_margin 3,3,3,3\nharm 3,3,3,3\n";
     let lent = String::from_utf8(answer(&["answers", "-", "2"], row)).unwrap();
     let lines: Vec<&str> = lent.lines().collect();
     assert_eq!(
@@ -128,6 +153,9 @@ fn cases_and_answers() {
             "judge: 8, zero 0 0 0 0",
             "judge 3,3,3,3: 0 0 3 3, zero 3 3 3 3",
             "marks 4,3,3,3,3: 0 3, zero 3 3 3 3, out 1117",
+            "sheet_margin: 8, zero 0 0 0 0",
+            "sheet_margin 3,3,3,3: 0 0 3 2, zero 3 3 3 3",
+            "harm 3,3,3,3: 0 0 3 0 0, zero 3 3 3 3",
         ]
     );
     for wrong in [

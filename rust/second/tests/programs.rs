@@ -2,7 +2,7 @@
 //! stands where is in tests/programs/README.md at the repository's root.
 
 use second::calls::states_of;
-use second::cases::margin;
+use second::margin::by_drawing;
 use second::program::{bytes_of_text, evidence_bytes, judge_lines, refusal_line, OUTPUT, SCRATCH};
 use second::read_model;
 use std::collections::BTreeSet;
@@ -53,7 +53,11 @@ fn cases() -> Vec<(String, String, Vec<u8>)> {
 /// What the program beyond document 01 prints.
 fn tolerance_lines(plan: &[u8]) -> String {
     match read_model(plan) {
-        Ok(model) => format!("states {}\nmargin {}\n", states_of(&model), margin(&model)),
+        Ok(model) => format!(
+            "states {}\nmargin {}\n",
+            states_of(&model),
+            by_drawing(&model)
+        ),
         Err(refusal) => refusal_line(refusal),
     }
 }

@@ -7,7 +7,7 @@ use common::ENOUGH;
 use second::generate::{generate_sized, Class};
 use second::limits::{MAX_CEILING, MAX_CLOCKS, MAX_LOCATIONS, MAX_STATES};
 use second::program::OUTPUT;
-use second::{check_evidence, judge, write_evidence};
+use second::{check_evidence, harm, judge, sheet_margin, write_evidence};
 use std::time::{Duration, Instant};
 
 fn within(limit: Duration, sizes: &[(usize, u32, usize, usize)], classes: &[Class]) {
@@ -25,6 +25,12 @@ fn within(limit: Duration, sizes: &[(usize, u32, usize, usize)], classes: &[Clas
                 let begin = Instant::now();
                 assert!(check_evidence(&model, &out[..written], ENOUGH).is_ok());
                 assert!(begin.elapsed() < limit, "check");
+                let begin = Instant::now();
+                assert!(sheet_margin(&model, ENOUGH).is_ok());
+                assert!(begin.elapsed() < limit, "margin");
+                let begin = Instant::now();
+                assert!(harm(&model, ENOUGH).is_ok());
+                assert!(begin.elapsed() < limit, "harm");
             }
         }
     }

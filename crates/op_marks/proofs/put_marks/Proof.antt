@@ -7,9 +7,10 @@ use mathlib.Core.Path.{_≡_, refl, sym, _∙_}
 use lib.ListN.{length, getD, length-set}
 use Rattle.graph.proofs.Plan.{size-states}
 use Rattle.theory.specs.Below.{bit}
+use Rattle.theory.proofs.Below.{stored-next}
 use Rattle.graph.specs.Plan.{systemOfModel}
 use Rattle.graph.proofs.Models.{system-laws}
-use Rattle.op_marks.proofs.Marked.{marks-written, marks-next}
+use Rattle.op_marks.proofs.Marked.{marks-written}
 use Rattle.op_marks.proofs.put_marks.Statement.{statement}
 use Rattle.op_marks.proofs.put_marks.Tie as tie
 
@@ -48,7 +49,7 @@ loop-again c =
     let l = c .before .before .before .loop in (
       omega arith,
       simp length-set (l .inv .1),
-      marks-next (l .out) (c .before .before .before .before .before .before .args .distances .now) (l .p) (c .flag .result) (slice-write-out c) (c .flag .ensures) (l .inv .2),
+      stored-next (λ k. bit (ltb 0 (getD (c .before .before .before .before .before .before .args .distances .now) k 0))) (l .out) (l .p) (c .flag .result) (slice-write-out c) (c .flag .ensures) (l .inv .2),
     )
 
 same-length : tie.Need-same-length Inv-loop μ-loop

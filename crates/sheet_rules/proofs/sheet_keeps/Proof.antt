@@ -28,7 +28,7 @@ mul-is-in c =
     let start = count .before .before .before .before .before in
     omega (
       arith,
-      location-fits _ (start .pre .filled) _ (count .regions-in .ensures) _ (start .pre .long) (c .from-byte .result)
+      location-fits _ _ (count .regions-in .ensures) _ (start .pre .long) (c .from-byte .result)
           (omega (arith, c .from-byte .ensures, start .pre .filled .lawful .start)),
     )
 
@@ -38,8 +38,8 @@ is-in-requires c κs =
     let start = count .before .before .before .before .before in
     omega (
       arith,
-      some-regions _ (start .pre .filled) _ (count .regions-in .ensures),
-      location-fits _ (start .pre .filled) _ (count .regions-in .ensures) _ (start .pre .long) (c .from-byte .result)
+      some-regions _ _ (count .regions-in .ensures),
+      location-fits _ _ (count .regions-in .ensures) _ (start .pre .long) (c .from-byte .result)
           (omega (arith, c .from-byte .ensures, start .pre .filled .lawful .start)),
     )
 
@@ -70,7 +70,7 @@ location-keeps-requires c κs =
           omega (
             arith,
             loop .inv .2,
-            location-fits _ (start .pre .filled) _ (count .regions-in .ensures) _ (start .pre .long) (loop .l) (omega (arith, loop .inv .0)),
+            location-fits _ _ (count .regions-in .ensures) _ (start .pre .long) (loop .l) (omega (arith, loop .inv .0)),
           );
       sizes = sizes-are _ (start .pre .filled) _ (count .regions-in .ensures) _ (start .pre .long);
     }
@@ -92,7 +92,7 @@ add-base c =
     omega (
       arith,
       loop .inv .2,
-      location-fits _ (start .pre .filled) _ (count .regions-in .ensures) _ (start .pre .long) (loop .l) (omega (arith, loop .inv .0)),
+      location-fits _ _ (count .regions-in .ensures) _ (start .pre .long) (loop .l) (omega (arith, loop .inv .0)),
     )
 
 loop-again : tie.Need-loop-again Inv-loop μ-loop

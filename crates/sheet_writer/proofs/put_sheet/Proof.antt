@@ -45,12 +45,15 @@ state-number-requires c κs =
     let start = loop .before .before .before .before .before .before .before .before in
     height-fits (start .pre .0) (start .pre .1) (loop .loop .p) (c .before .before .before .loop-test .taken)
 
+cast-put : tie.Need-cast-put Inv-loop μ-loop
+cast-put c = omega (arith, c .state-number .ensures .1)
+
 put-requires-2 : tie.Need-put-requires-2 Inv-loop μ-loop
 put-requires-2 c κs =
     let loop = c .before .before .before .before .before .loop in
     let first = c .before .before .before .before .before .before .before .before .put in
     let start = c .before .before .before .before .before .before .before .before .before .before .before .before .before in
-    (c .state-number .ensures .1, room-next _ _ (first .ensures) (loop .inv .1) (omega (arith, few-states (start .pre .0) (start .pre .1))))
+    (omega (arith, c .state-number .ensures .1), room-next _ _ (first .ensures) (loop .inv .1) (omega (arith, few-states (start .pre .0) (start .pre .1))))
 
 add-p : tie.Need-add-p Inv-loop μ-loop
 add-p c = search needs
@@ -84,6 +87,7 @@ put-sheet-spec =
     mul-state-number-2
     shared-slice-read-state-number-2
     state-number-requires
+    cast-put
     put-requires-2
     add-p
     loop-less

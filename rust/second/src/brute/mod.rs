@@ -4,9 +4,12 @@
 //! Regions are met through a sample valuation each, in eighths of a unit;
 //! corners are the whole points of a region's closure; closed walks come from
 //! a transitive closure, marks and heights from repeated sweeps; trails and
-//! walks are compared as whole lists.
+//! walks are compared as whole lists, and walks within a fringe lengthened
+//! step by step.
 
 pub mod check;
+pub mod harm;
+pub mod margin;
 pub mod read;
 pub mod regions;
 pub mod states;

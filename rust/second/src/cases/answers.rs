@@ -1,8 +1,9 @@
 //! What the proved program prints for the text of cases.
 
-use super::margin::margin;
 use super::{listed, MOST};
-use crate::calls::{check_evidence, judge, marks, states_of, write_evidence, Scratch};
+use crate::calls::{check_evidence, harm, judge, marks, sheet_margin, states_of, write_evidence};
+use crate::calls::{Harm, Scratch, SheetMargin};
+use crate::margin::by_drawing;
 use crate::model::read_model;
 use crate::program::bytes_of_text;
 use crate::refusal::{Refusal, OUTPUT_TOO_SHORT};
@@ -41,6 +42,8 @@ fn answer(model: &[u8], line: &str, length: usize) -> Result<String, String> {
         "marks" => marks_answer(model, scratch(1), lent(0)),
         "write" => write_answer(model, scratch(1), lent(0)),
         "margin" => margin_answer(model),
+        "sheet_margin" => sheet_margin_answer(model, scratch(0)),
+        "harm" => harm_answer(model, scratch(0)),
         _ => {
             let evidence = bytes_of_text(line)?;
             let kind = check_evidence(model, &evidence, [length; 4]);
@@ -106,5 +109,27 @@ fn shown(bytes: String) -> String {
 }
 
 fn margin_answer(model: &[u8]) -> String {
-    told(read_model(model).map(|model| vec![states_of(&model), margin(&model)]))
+    told(read_model(model).map(|model| vec![states_of(&model), by_drawing(&model)]))
+}
+
+fn sheet_margin_answer(model: &[u8], scratch: Scratch) -> String {
+    let found = sheet_margin(model, scratch);
+    let zeros = zeros(model, &found);
+    let values = found.map(|found| match found {
+        SheetMargin::Safe { states, margin } => vec![0, states, margin as usize],
+        SheetMargin::Unsafe { states } => vec![1, states, 0],
+    });
+    told(values) + &zeros
+}
+
+fn harm_answer(model: &[u8], scratch: Scratch) -> String {
+    let found = harm(model, scratch);
+    let zeros = zeros(model, &found);
+    let values = found.map(|found| match found {
+        Harm::Safe { states } => vec![0, states, 0, 0],
+        Harm::Within { states, bound } => {
+            vec![1, states, bound.base as usize, bound.rate as usize]
+        }
+    });
+    told(values) + &zeros
 }

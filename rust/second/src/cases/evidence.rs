@@ -96,6 +96,15 @@ fn line(text: &mut Text) {
             "judge", "marks 5", "marks 3", "marks 2", "write 6", "write 4", "write 3", "margin",
         ],
     );
+    text.operations(
+        "our sheet has no fringe; no harm",
+        &[
+            "sheet_margin",
+            "harm",
+            "sheet_margin 3,3,3,3",
+            "harm 3,3,3,2",
+        ],
+    );
     text.group(
         "01's sheet, and with padded numbers",
         &[&[1, 5, 3, 1], &[129, 128, 0, 133, 0, 3, 129, 0]],
@@ -173,6 +182,7 @@ fn small_plans(text: &mut Text) {
             "judge", "marks 4", "write 2", "write 1", "write 0", "margin",
         ],
     );
+    text.operations("no margin; harm at once", &["sheet_margin", "harm"]);
     text.group(
         "01's trail, padded too, and longer",
         &[&[2, 0], &[130, 0, 128, 128, 0], &[2, 2, 0, 0]],
@@ -336,6 +346,17 @@ fn loop_lengths(text: &mut Text) {
             "write 42,132,132,132,132",
             "write 41",
             "write 41,131,132,132,132",
+        ],
+    );
+    text.operations(
+        "no margin; how soon our trail does harm; each slice one too short",
+        &[
+            "sheet_margin",
+            "harm",
+            "sheet_margin 131,132,132,132",
+            "sheet_margin 132,132,131,132",
+            "harm 132,131,132,132",
+            "harm 132,132,132,131",
         ],
     );
 }
@@ -525,6 +546,15 @@ fn cube(text: &mut Text) {
     single_rules(text, &calm);
 }
 
+const OPERATIONS: [&str; 6] = [
+    "judge",
+    "marks 5",
+    "write 5",
+    "margin",
+    "sheet_margin",
+    "harm",
+];
+
 /// The plan is judged first, whatever the evidence is.
 fn refused_plans(text: &mut Text) {
     let refused: [(&str, &[u8]); 8] = [
@@ -552,7 +582,7 @@ fn refused_plans(text: &mut Text) {
             model,
             "No operation goes further.",
         );
-        for operation in ["judge", "marks 5", "write 5", "margin"] {
+        for operation in OPERATIONS {
             text.line(operation);
         }
         text.bytes(&[9]);

@@ -3,13 +3,11 @@
 
 mod answers;
 mod evidence;
-mod margin;
 mod operations;
 mod reading;
 pub mod rules;
 
 pub use answers::answers;
-pub use margin::margin;
 
 use crate::calls::{evidence_of, states_of};
 use crate::graph::Graph;
@@ -88,7 +86,7 @@ impl Text {
         self.group(what, &[&bytes]);
     }
 
-    /// A plan with every operation, if it is accepted, or else the refusal.
+    /// A plan with each operation, if it is accepted, or else the refusal.
     fn judged(&mut self, name: &str, model: &[u8]) {
         self.named(name, model);
         match read_model(model) {
@@ -97,27 +95,43 @@ impl Text {
         }
     }
 
-    /// The same for each line of a list, a name with bytes or a comment.
-    fn all_judged(&mut self, plans: &str) {
+    /// An accepted plan with every operation and what there is to tell of
+    /// drift: the margin of our sheet, or the harm of our trail.
+    fn judged_with_drift(&mut self, name: &str, model: &[u8]) {
+        self.judged(name, model);
+        let graph = Graph::new(read_model(model).expect("an accepted plan"));
+        let operation = if evidence_of(&graph).0.is_unsafe {
+            "harm"
+        } else {
+            "sheet_margin"
+        };
+        self.line_with_scratch(operation, &enough(graph.states()));
+    }
+
+    /// Each line of a list: a plan, as a name with bytes, or a comment.
+    fn all(&mut self, plans: &str, put: fn(&mut Text, &str, &[u8])) {
         for line in plans.lines() {
             match line.split_once(':') {
                 Some((name, bytes)) if !line.starts_with('#') => {
-                    self.judged(name, &bytes_of_text(bytes).expect("bytes in decimal"));
+                    put(self, name, &bytes_of_text(bytes).expect("bytes in decimal"));
                 }
                 _ => self.line(line),
             }
         }
     }
 
-    /// Each operation, with a byte more than it needs.
+    /// An operation that is lent scratch alone.
+    fn line_with_scratch(&mut self, operation: &str, scratch: &str) {
+        let lengths = scratch.trim_start_matches(',');
+        self.line(format!("{operation} {lengths}").trim_end());
+    }
+
+    /// Each operation of document 01, with a byte more than it needs, and the
+    /// margin by the drawing.
     fn every_operation(&mut self, model: Model) {
         let states = states_of(&model);
-        let scratch = if states <= SCRATCH {
-            String::new()
-        } else {
-            [states; 4].map(|length| format!(",{length}")).concat()
-        };
-        self.line(format!("judge {}", scratch.trim_start_matches(',')).trim_end());
+        let scratch = enough(states);
+        self.line_with_scratch("judge", &scratch);
         self.line(&format!("marks {}{scratch}", MOST.min(states + 1)));
         let bytes = evidence_of(&Graph::new(model)).1.len();
         if bytes <= EVIDENCE {
@@ -125,6 +139,15 @@ impl Text {
         }
         self.line("margin");
     }
+}
+
+/// The lengths of scratch for so many states, a comma before each; nothing
+/// where the usual ones are enough.
+fn enough(states: usize) -> String {
+    if states <= SCRATCH {
+        return String::new();
+    }
+    [states; 4].map(|length| format!(",{length}")).concat()
 }
 
 /// Bytes in decimal, set apart by commas.

@@ -25,7 +25,7 @@ two repeaters: 1,3,3,4,5,0,0,4,0,0,0,0,2,0,0,0,0,2,1,0,0,0,0,1,7,3,3,0,3,0,3,1,2
 const LARGEST: &str = include_str!("../../../../plans/largest.plan");
 
 pub fn operations(text: &mut Text) {
-    text.all_judged(PLANS);
+    text.all(PLANS, Text::judged_with_drift);
     for clocks in 1..=3 {
         for ceiling in 1..=4 {
             alone(text, clocks, ceiling);
@@ -33,7 +33,7 @@ pub fn operations(text: &mut Text) {
         }
     }
     let largest = bytes_of_text(LARGEST).expect("a plan as a list");
-    text.judged("largest", &largest);
+    text.judged_with_drift("largest", &largest);
 }
 
 /// One location without edges: S is the count of regions, and our sheet has
@@ -41,7 +41,7 @@ pub fn operations(text: &mut Text) {
 fn alone(text: &mut Text, clocks: u8, ceiling: u8) {
     let mut plan = vec![1, clocks, ceiling, 1, 0, 0];
     plan.extend(vec![0; 1 + usize::from(clocks)]);
-    text.judged(&format!("clocks {clocks}, ceiling {ceiling}"), &plan);
+    text.judged_with_drift(&format!("clocks {clocks}, ceiling {ceiling}"), &plan);
 }
 
 /// A location for each clock, left when the clock is at the ceiling, which
@@ -55,5 +55,5 @@ fn ring(text: &mut Text, clocks: u8, ceiling: u8) {
             plan.extend([if clock == location { ceiling } else { 0 }, ceiling]);
         }
     }
-    text.judged(&format!("clocks {clocks}, ceiling {ceiling}, ring"), &plan);
+    text.judged_with_drift(&format!("clocks {clocks}, ceiling {ceiling}, ring"), &plan);
 }

@@ -104,7 +104,7 @@ low's range before a missing high: 1,1,1,1,1,0,0,0,0,0,1,2
 ";
 
 pub fn reading(text: &mut Text) {
-    text.all_judged(PLANS);
+    text.all(PLANS, Text::judged);
     text.note("The most edges, and one more.");
     text.judged("24 edges", &loops(24));
     text.judged("25 edges", &loops(25));

@@ -1,11 +1,10 @@
-//! The margin of a plan, beyond document 01: from its definition in
-//! crates/robust/specs, which docs/DRIFT.md tells in words.
+//! The margin by the drawing: from its definition in crates/robust/specs,
+//! which docs/DRIFT.md tells in words.
 
 use crate::model::{Edge, Model};
 
-/// A number A: every drift below a unit's A-th part is harmless for ever, if
-/// the plan is safe.
-pub fn margin(model: &Model) -> usize {
+/// Twice the entries at halves of a unit, and the clocks.
+pub fn by_drawing(model: &Model) -> usize {
     let entries = (0..model.locations.len()).map(|location| entries_of(model, location));
     2 * entries.sum::<usize>() + model.clocks
 }

@@ -1,0 +1,2 @@
+-- Flags of the fringe of a sheet.
+pub mod Flags

@@ -1,0 +1,2 @@
+-- The ways of the call.
+pub mod Answered

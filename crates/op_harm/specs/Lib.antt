@@ -1,0 +1,2 @@
+-- How soon drift does harm.
+pub mod Harm

@@ -1,0 +1,2 @@
+-- The margin of a plan by its sheet.
+pub mod SheetMargin

@@ -1,0 +1,2 @@
+-- The outlook from what is found.
+pub mod Found

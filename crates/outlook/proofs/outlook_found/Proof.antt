@@ -1,0 +1,207 @@
+-- `outlook::outlook_found` meets its contract.
+use borrow.Author.Needs.{needs}
+use native.Mathlib.Omega.{arith}
+use mathlib.Core.Path.{sym, _∙_}
+use lib.Seq.{length-take-le}
+use Rattle.graph.proofs.Plan.{size-states}
+use Rattle.graph.specs.Plan.{systemOfModel}
+use Rattle.graph.proofs.Models.{system-laws}
+use Rattle.graph.proofs.States.{clocks-of, ceiling-of}
+use Rattle.survey.proofs.Tables.{start-product}
+use Rattle.survey.proofs.Forbidden.{kinds, forbids-by}
+use Rattle.evidence_writer.proofs.Verdict.{unsafe-by, safe-by, trail-asked, trail-told}
+use Rattle.outlook.proofs.Found.{unsafe-found, safe-found}
+use Rattle.outlook.proofs.outlook_found.Statement.{statement}
+use Rattle.outlook.proofs.outlook_found.Tie as tie
+
+count-requires : tie.Need-count-requires
+count-requires c κs =
+    let start = c .before .before .before .before .before .before .before .before .before .before in
+    let m = start .args .m in
+    let ok = start .pre .0 in
+    let F = start .pre .2 .flow in
+    let K = start .pre .4 in
+    (clocks-of m ok, ceiling-of m ok)
+
+from-short-requires : tie.Need-from-short-requires
+from-short-requires c κs = search needs
+
+slice-aggregate-fewest : tie.Need-slice-aggregate-fewest
+slice-aggregate-fewest c = search needs
+
+fewest-requires : tie.Need-fewest-requires
+fewest-requires c κs =
+    let start = c .before .before .before .before .before .before .before .before .before .before .before .before .before .before in
+    let m = start .args .m in
+    let ok = start .pre .0 in
+    let F = start .pre .2 .flow in
+    let K = start .pre .4 in
+    let r = c .before .before .from-short .result in
+    let e = c .before .before .from-short .ensures ∙ c .before .before .before .count .ensures in
+    kinds m ok (start .args .distance .now) r (K .surveyed .distances) e
+
+from-byte-requires : tie.Need-from-byte-requires
+from-byte-requires c κs = search needs
+
+mul-start : tie.Need-mul-start
+mul-start c =
+    let start = c .before .before .before .before .before .before .before .before .before .before .before .before .before .before .before .before .before in
+    let m = start .args .m in
+    let ok = start .pre .0 in
+    let F = start .pre .2 .flow in
+    let K = start .pre .4 in
+    let r = c .before .before .before .before .before .from-short .result in
+    let e = c .before .before .before .before .before .from-short .ensures ∙ c .before .before .before .before .before .before .count .ensures in
+    rw (c .from-byte .ensures) (omega (arith, start-product m ok r e))
+
+slice-aggregate-trail-states : tie.Need-slice-aggregate-trail-states
+slice-aggregate-trail-states c = search needs
+
+trail-states-requires : tie.Need-trail-states-requires
+trail-states-requires c κs =
+    let start = c .before .before .before .before .before .before .before .before .before .before .before .before .before .before .before .before .before .before .before .before .before .before in
+    let m = start .args .m in
+    let ok = start .pre .0 in
+    let F = start .pre .2 .flow in
+    let K = start .pre .4 in
+    let r = c .before .before .before .before .before .before .before .before .before .before .from-short .result in
+    let e = c .before .before .before .before .before .before .before .before .before .before .from-short .ensures ∙ c .before .before .before .before .before .before .before .before .before .before .before .count .ensures in
+    let steps = c .before .before .before .before .before .before .before .fewest .result in
+    let s = c .before .before .before .before .before .before .before .fewest .ensures (systemOfModel m) (system-laws m ok) (K .surveyed .distances) (forbids-by m ok r e) in
+    rw (c .before .before .before .before .before .from-byte .ensures) (trail-asked m ok F (start .pre .3) K r e steps s _ (start .pre .6) (start .pre .5) (c .before .before .before .before .before .before .if1 .taken))
+
+slice-reshare-prefix-trail-delay : tie.Need-slice-reshare-prefix-trail-delay
+slice-reshare-prefix-trail-delay c =
+    let start = c .before .before .before .before .before .before .before .before .before .before .before .before .before .before .before .before .before .before .before .before .before .before .before .before .before .before .before in
+    let m = start .args .m in
+    let ok = start .pre .0 in
+    let F = start .pre .2 .flow in
+    let K = start .pre .4 in
+    omega (arith, c .before .before .before .before .trail-states .kept .1 .1 .1 .1 .1 .1 .1 .1 .1 .1 .0, start .pre .6, c .before .before .before .before .before .before .before .before .before .before .before .if1 .taken, K .surveyed .distances .long, size-states m)
+
+slice-aggregate-trail-delay : tie.Need-slice-aggregate-trail-delay
+slice-aggregate-trail-delay c =
+    let start = c .before .before .before .before .before .before .before .before .before .before .before .before .before .before .before .before .before .before .before .before .before .before .before .before .before .before .before .before in
+    let m = start .args .m in
+    let ok = start .pre .0 in
+    let F = start .pre .2 .flow in
+    let K = start .pre .4 in
+    sym (length-take-le _ _ (omega (arith, c .before .before .before .before .before .trail-states .kept .1 .1 .1 .1 .1 .1 .1 .1 .1 .1 .0, start .pre .6, c .before .before .before .before .before .before .before .before .before .before .before .before .if1 .taken, K .surveyed .distances .long, size-states m)))
+
+trail-delay-requires : tie.Need-trail-delay-requires
+trail-delay-requires c κs =
+    let start = c .before .before .before .before .before .before .before .before .before .before .before .before .before .before .before .before .before .before .before .before .before .before .before .before .before .before .before .before .before .before .before in
+    let m = start .args .m in
+    let ok = start .pre .0 in
+    let F = start .pre .2 .flow in
+    let K = start .pre .4 in
+    let r = c .before .before .before .before .before .before .before .before .before .before .before .before .before .before .before .before .before .before .before .from-short .result in
+    let e = c .before .before .before .before .before .before .before .before .before .before .before .before .before .before .before .before .before .before .before .from-short .ensures ∙ c .before .before .before .before .before .before .before .before .before .before .before .before .before .before .before .before .before .before .before .before .count .ensures in
+    let steps = c .before .before .before .before .before .before .before .before .before .before .before .before .before .before .before .before .fewest .result in
+    let s = c .before .before .before .before .before .before .before .before .before .before .before .before .before .before .before .before .fewest .ensures (systemOfModel m) (system-laws m ok) (K .surveyed .distances) (forbids-by m ok r e) in
+    let states = c .before .before .before .before .before .before .before .before .trail-states in (
+      record {
+        lawful = ok;
+        listed = start .pre .1;
+        flow = F;
+        level-long = K .surveyed .heights .long;
+        queue-long = states .kept .1 .1 .1 .1 .1 .1 .1 .1 .0 ∙ (K .surveyed .distances .long ∙ size-states m);
+        walk-long = start .pre .5;
+      },
+      unsafe-by m ok F (start .pre .3) K r e steps s (c .before .before .before .before .before .before .before .before .before .before .before .before .before .before .before .if1 .taken),
+      states .ensures .1 (systemOfModel m) (rw (c .before .before .before .before .before .before .before .before .before .before .before .before .before .before .from-byte .ensures) (trail-told m ok F (start .pre .3) K r e steps s)),
+    )
+
+same-length : tie.Need-same-length
+same-length c = search needs
+
+same-length-2 : tie.Need-same-length-2
+same-length-2 c = search needs
+
+same-length-3 : tie.Need-same-length-3
+same-length-3 c = search needs
+
+same-length-4 : tie.Need-same-length-4
+same-length-4 c = search needs
+
+returns : tie.Need-returns
+returns c =
+    let start = c .before .before .before .before .before .before .before .before .before .before .before .before .before .before .before .before .before .before .before .before .before .before .before .before .before .before .before .before .before .before .before .before .before .before .before .before .before .before in
+    let m = start .args .m in
+    let ok = start .pre .0 in
+    let F = start .pre .2 .flow in
+    let K = start .pre .4 in
+    let r = c .before .before .before .before .before .before .before .before .before .before .before .before .before .before .before .before .before .before .before .before .before .before .before .before .before .before .from-short .result in
+    let e = c .before .before .before .before .before .before .before .before .before .before .before .before .before .before .before .before .before .before .before .before .before .before .before .before .before .before .from-short .ensures ∙ c .before .before .before .before .before .before .before .before .before .before .before .before .before .before .before .before .before .before .before .before .before .before .before .before .before .before .before .count .ensures in
+    let steps = c .before .before .before .before .before .before .before .before .before .before .before .before .before .before .before .before .before .before .before .before .before .before .before .fewest .result in
+    let s = c .before .before .before .before .before .before .before .before .before .before .before .before .before .before .before .before .before .before .before .before .before .before .before .fewest .ensures (systemOfModel m) (system-laws m ok) (K .surveyed .distances) (forbids-by m ok r e) in
+    unsafe-found m (unsafe-by m ok F (start .pre .3) K r e steps s (c .before .before .before .before .before .before .before .before .before .before .before .before .before .before .before .before .before .before .before .before .before .before .if1 .taken)) _ (c .before .before .before .before .before .before .trail-delay .ensures)
+
+margin-of-requires : tie.Need-margin-of-requires
+margin-of-requires c κs =
+    let start = c .before .before .before .before .before .before .before .before .before .before .before .before .before .before .before .before .before .before .before .before .before in
+    let m = start .args .m in
+    let ok = start .pre .0 in
+    let F = start .pre .2 .flow in
+    let K = start .pre .4 in
+    let r = c .before .before .before .before .before .before .before .before .before .from-short .result in
+    let e = c .before .before .before .before .before .before .before .before .before .from-short .ensures ∙ c .before .before .before .before .before .before .before .before .before .before .count .ensures in
+    let steps = c .before .before .before .before .before .before .fewest .result in
+    let s = c .before .before .before .before .before .before .fewest .ensures (systemOfModel m) (system-laws m ok) (K .surveyed .distances) (forbids-by m ok r e) in
+    ((ok, start .pre .1, start .pre .2, start .pre .3), ((K .surveyed, start .pre .5, start .pre .6), safe-by m ok F (start .pre .3) K r e steps s (c .before .before .before .before .before .if1 .left)))
+
+same-length-5 : tie.Need-same-length-5
+same-length-5 c = search needs
+
+same-length-6 : tie.Need-same-length-6
+same-length-6 c = search needs
+
+same-length-7 : tie.Need-same-length-7
+same-length-7 c = search needs
+
+same-length-8 : tie.Need-same-length-8
+same-length-8 c = search needs
+
+same-length-9 : tie.Need-same-length-9
+same-length-9 c = search needs
+
+returns-2 : tie.Need-returns-2
+returns-2 c =
+    let start = c .before .before .before .before .before .before .before .before .before .before .before .before .before .before .before .before .before .before .before .before .before .before .before .before .before .before .before .before .before .before .before .before in
+    let m = start .args .m in
+    let ok = start .pre .0 in
+    let F = start .pre .2 .flow in
+    let K = start .pre .4 in
+    let r = c .before .before .before .before .before .before .before .before .before .before .before .before .before .before .before .before .before .before .before .before .from-short .result in
+    let e = c .before .before .before .before .before .before .before .before .before .before .before .before .before .before .before .before .before .before .before .before .from-short .ensures ∙ c .before .before .before .before .before .before .before .before .before .before .before .before .before .before .before .before .before .before .before .before .before .count .ensures in
+    let steps = c .before .before .before .before .before .before .before .before .before .before .before .before .before .before .before .before .before .fewest .result in
+    let s = c .before .before .before .before .before .before .before .before .before .before .before .before .before .before .before .before .before .fewest .ensures (systemOfModel m) (system-laws m ok) (K .surveyed .distances) (forbids-by m ok r e) in
+    safe-found m (safe-by m ok F (start .pre .3) K r e steps s (c .before .before .before .before .before .before .before .before .before .before .before .before .before .before .before .before .if1 .left)) _ (c .before .before .before .before .before .before .before .before .before .before .margin-of .ensures)
+
+pub outlook-found-spec : {M : Type 1} → statement M
+outlook-found-spec =
+    tie.close
+    (tie.spec
+    count-requires
+    from-short-requires
+    slice-aggregate-fewest
+    fewest-requires
+    from-byte-requires
+    mul-start
+    slice-aggregate-trail-states
+    trail-states-requires
+    slice-reshare-prefix-trail-delay
+    slice-aggregate-trail-delay
+    trail-delay-requires
+    same-length
+    same-length-2
+    same-length-3
+    same-length-4
+    returns
+    margin-of-requires
+    same-length-5
+    same-length-6
+    same-length-7
+    same-length-8
+    same-length-9
+    returns-2)

@@ -1,0 +1,2 @@
+-- What drift does to a plan in the end.
+pub mod Outlook

@@ -1,0 +1,2 @@
+-- The delay of our trail.
+pub mod Ours

@@ -1,0 +1,23 @@
+//! The command `zervuldo`: plans judged, checked, drawn and explained.
+//!
+//! Verdicts, evidence and its check, margins and the jumps within which harm
+//! comes are answers of the proved library (crate `drift`). What is found by
+//! code that is not proved is named so wherever it is told.
+
+pub mod args;
+pub mod command;
+pub mod evidence;
+pub mod example;
+pub mod facts;
+pub mod files;
+pub mod json;
+pub mod library;
+pub mod outcome;
+pub mod pace;
+pub mod perfect;
+pub mod report;
+pub mod source;
+pub mod text;
+pub mod told;
+pub mod units;
+pub mod warnings;

@@ -1,0 +1,63 @@
+//! The proved library, with scratch of its own that is enough for every plan.
+
+use drift::{Buffers, Harm, Judgement, Kind, Refusal, SheetMargin, MOST_STATES};
+
+/// Room for evidence at first, and the most that is tried: more than any plan
+/// of document 01 was seen to need by far.
+const ROOM: usize = 1 << 16;
+const MOST_ROOM: usize = 1 << 28;
+
+pub struct Library {
+    buffers: Buffers,
+}
+
+impl Default for Library {
+    fn default() -> Library {
+        Library {
+            buffers: Buffers::new(MOST_STATES),
+        }
+    }
+}
+
+impl Library {
+    pub fn judge(&mut self, model: &[u8]) -> Result<Judgement, Refusal> {
+        drift::judge(model, self.buffers.lend())
+    }
+
+    pub fn check(&mut self, model: &[u8], evidence: &[u8]) -> Result<Kind, Refusal> {
+        drift::check_evidence(model, evidence, self.buffers.lend())
+    }
+
+    /// Our evidence, in as much room as it needs.
+    pub fn evidence(&mut self, model: &[u8]) -> Result<Vec<u8>, Refusal> {
+        let mut out = vec![0; ROOM];
+        loop {
+            match drift::write_evidence(model, self.buffers.lend(), &mut out) {
+                Ok(written) => {
+                    out.truncate(written.bytes);
+                    return Ok(out);
+                }
+                Err(Refusal::OutputTooShort) if out.len() < MOST_ROOM => {
+                    out.resize(4 * out.len(), 0);
+                }
+                Err(refusal) => return Err(refusal),
+            }
+        }
+    }
+
+    /// A mark of 1 or 0 for each state.
+    pub fn marks(&mut self, model: &[u8]) -> Result<Vec<u8>, Refusal> {
+        let mut out = vec![0; MOST_STATES];
+        let states = drift::marks(model, self.buffers.lend(), &mut out)?;
+        out.truncate(states);
+        Ok(out)
+    }
+
+    pub fn margin(&mut self, model: &[u8]) -> Result<SheetMargin, Refusal> {
+        drift::sheet_margin(model, self.buffers.lend())
+    }
+
+    pub fn harm(&mut self, model: &[u8]) -> Result<Harm, Refusal> {
+        drift::harm(model, self.buffers.lend())
+    }
+}

@@ -1,0 +1,224 @@
+//! Facts told in words: one plan line by line, several as a table.
+
+use crate::facts::{Example, Facts, Finding, Perfect, Safe, Unsafe};
+use crate::text::wrapped;
+use crate::units::{drift_words, grouped, margin_words, units_words, Drift, Window};
+use plan::Plan;
+
+/// Where the words behind a label begin.
+const INDENT: usize = 18;
+
+/// A label and what is said under it.
+pub type Line = (&'static str, String);
+
+impl Facts {
+    pub fn is_safe(&self) -> bool {
+        matches!(self.finding, Finding::Safe(_))
+    }
+
+    pub fn verdict(&self) -> &'static str {
+        if self.is_safe() {
+            "safe"
+        } else {
+            "unsafe"
+        }
+    }
+
+    /// The name of our evidence.
+    pub fn kind(&self) -> &'static str {
+        if self.is_safe() {
+            "sheet"
+        } else {
+            "trail"
+        }
+    }
+}
+
+/// All facts of one plan; what became of its evidence comes behind them.
+pub fn told(facts: &Facts, evidence: Option<String>) -> String {
+    let mut lines = match &facts.finding {
+        Finding::Safe(safe) => safe_lines(facts, safe),
+        Finding::Unsafe(danger) => danger_lines(facts, danger),
+    };
+    lines.extend(evidence.map(|words| ("evidence", words)));
+    let warnings = facts.warnings.iter();
+    lines.extend(warnings.map(|warning| ("warning", warning.words(&facts.plan))));
+    lines.extend(trust_lines(facts));
+    let told: String = lines
+        .iter()
+        .map(|(label, words)| wrapped(&format!("  {label}"), INDENT, words))
+        .collect();
+    format!("{}: {}\n{told}", facts.title, facts.verdict())
+}
+
+fn safe_lines(facts: &Facts, safe: &Safe) -> Vec<Line> {
+    let plan = &facts.plan;
+    let mut lines = vec![
+        ("meaning", safe_words(safe)),
+        (
+            "states",
+            format!("{}, {} of them reached by drift", facts.states, safe.marked),
+        ),
+        ("margin", safe.margin.to_string()),
+    ];
+    lines.extend(drift_words(plan).map(|words| ("drift", words)));
+    lines.push(("crystals", margin_words(plan, safe)));
+    lines
+}
+
+/// What the margin of a safe plan means.
+pub fn safe_words(safe: &Safe) -> String {
+    format!(
+        "drift below 1/{} of a unit enters no forbidden location, ever",
+        safe.margin
+    )
+}
+
+fn danger_lines(facts: &Facts, danger: &Unsafe) -> Vec<Line> {
+    let plan = &facts.plan;
+    let place = plan.quoted(danger.location);
+    let mut lines = vec![
+        (
+            "meaning",
+            format!("with any drift, however slight, the ring can enter {place} in the end"),
+        ),
+        ("states", facts.states.to_string()),
+        ("trail", format!("{} steps into {place}", danger.steps)),
+        ("perfect clocks", perfect_words(&danger.perfect)),
+        ("harm", harm_words(plan, danger)),
+    ];
+    lines.extend(drift_words(plan).map(|words| ("drift", words)));
+    if let Some(window) = Window::of(plan, danger) {
+        lines.push(("jumps", window.jump_words()));
+        lines.extend(window.time_words().map(|words| ("time", words)));
+    }
+    let example = danger.example.as_ref();
+    lines.extend(example.map(|example| ("example", example_words(plan, example))));
+    lines
+}
+
+/// Whether perfect clocks do harm too, and how that is known.
+pub fn perfect_words(perfect: &Perfect) -> String {
+    match perfect {
+        Perfect::FailsToo { .. } => {
+            "fail too: a trail of time and jump steps alone passes the proved check"
+        }
+        Perfect::Clean => "clean: it takes drift to get there (by a search, not proved)",
+    }
+    .to_string()
+}
+
+/// Within how many jumps a drift of 1/q does harm.
+pub fn harm_words(plan: &Plan, danger: &Unsafe) -> String {
+    let within = danger.within(plan);
+    let (base, rate) = (grouped(within.base.into()), grouped(within.rate.into()));
+    match danger.perfect {
+        Perfect::FailsToo { .. } => {
+            format!("some run does harm within {base} jumps, whatever the drift")
+        }
+        Perfect::Clean => format!(
+            "at a drift of 1/q of a unit no run of fewer than q - 1 jumps does harm, and some \
+             run of at most {base} + {rate} q jumps does"
+        ),
+    }
+}
+
+/// A run found by search: how long it is, and how long it takes.
+pub fn example_words(plan: &Plan, example: &Example) -> String {
+    let (jumps, time) = (grouped(example.jumps.len() as u128), example.units());
+    let real = units_words(plan, time).map_or(String::new(), |words| format!(", {words}"));
+    let (drift, time) = (grouped(example.d.into()), grouped(time));
+    let whose = match example.is_crystals {
+        true => ", which the crystals make,",
+        false => "",
+    };
+    format!(
+        "at a drift of 1/{drift}{whose} a run of {jumps} jumps gets there in {time} units{real} \
+         (by a search, not proved)"
+    )
+}
+
+impl Example {
+    /// The units that the run takes, rounded up.
+    pub fn units(&self) -> u128 {
+        let last = self.jumps.last().map_or(0, |jump| jump.moment);
+        u128::from(last).div_ceil(u128::from(self.d))
+    }
+}
+
+/// What of all this is proved, and what is not.
+fn trust_lines(facts: &Facts) -> [Line; 2] {
+    let proved = match &facts.finding {
+        Finding::Safe(_) => "verdict, states, margin; the sheet passes the proved check",
+        Finding::Unsafe(_) => {
+            "verdict, states, trail, the jumps within which harm comes; the trail passes the \
+             proved check"
+        }
+    };
+    let not_proved = match &facts.finding {
+        Finding::Safe(_) => "how crystals make a drift (docs/DRIFT.md argues it)",
+        Finding::Unsafe(Unsafe {
+            perfect: Perfect::Clean,
+            ..
+        }) => {
+            "that perfect clocks are clean, on which the fewest jumps rest; times; how crystals \
+             make a drift (docs/DRIFT.md argues it)"
+        }
+        Finding::Unsafe(_) => "times; how crystals make a drift (docs/DRIFT.md argues it)",
+    };
+    [
+        ("proved", proved.to_string()),
+        ("not proved", not_proved.to_string()),
+    ]
+}
+
+/// A line of the table for a plan that could be judged.
+pub fn row(facts: &Facts) -> [String; 4] {
+    let found = match &facts.finding {
+        Finding::Safe(safe) => {
+            let drift = Drift::of(&facts.plan);
+            let more = match drift.filter(|drift| !drift.is_harmless(safe.margin)) {
+                Some(_) => "; ITS CRYSTALS DRIFT MORE",
+                None => "",
+            };
+            format!("harmless for ever below 1/{} of a unit{more}", safe.margin)
+        }
+        Finding::Unsafe(danger) => {
+            let how = match danger.perfect {
+                Perfect::Clean => "by drift only (searched)",
+                Perfect::FailsToo { .. } => "with perfect clocks too",
+            };
+            let (place, steps) = (facts.plan.quoted(danger.location), danger.steps);
+            format!("{place} in {steps} steps, {how}")
+        }
+    };
+    let warned = match facts.warnings.len() {
+        0 => String::new(),
+        1 => "; 1 warning".to_string(),
+        count => format!("; {count} warnings"),
+    };
+    [
+        facts.title.clone(),
+        facts.verdict().to_string(),
+        facts.states.to_string(),
+        found + &warned,
+    ]
+}
+
+/// Rows under their heads, each column as wide as it must be.
+pub fn table(rows: &[[String; 4]]) -> String {
+    let heads = ["plan", "verdict", "states", "finding"].map(str::to_string);
+    let all = || std::iter::once(&heads).chain(rows);
+    let width = |column: usize| {
+        let widths = all().map(|row| row[column].chars().count());
+        widths.max().unwrap_or(0)
+    };
+    let [title, verdict, states] = [0, 1, 2].map(width);
+    all()
+        .map(|row| {
+            let [a, b, c, d] = row;
+            let line = format!("{a:<title$}  {b:<verdict$}  {c:>states$}  {d}");
+            line.trim_end().to_string() + "\n"
+        })
+        .collect()
+}

@@ -1,0 +1,174 @@
+//! Help, options, files and exit statuses.
+
+mod common;
+
+use common::*;
+use std::process::{Command, Stdio};
+use zervuldo::command::COMMANDS;
+
+#[test]
+fn help_for_all_and_for_each() {
+    let all = printed(&["--help"], GOOD);
+    assert_eq!(printed(&["help"], GOOD), all);
+    for command in COMMANDS {
+        assert!(all.contains(&format!("\n  {}", command.name)), "{all}");
+        let told = printed(&[command.name, "--help"], GOOD);
+        assert_eq!(printed(&["help", command.name], GOOD), told);
+        assert!(told.contains(&format!("usage: zervuldo {}", command.name)));
+        for option in command.takes.options {
+            assert!(told.contains(&format!("\n  {}", option.name)), "{told}");
+        }
+        assert!(
+            told.lines().all(|line| line.chars().count() <= 80),
+            "{told}"
+        );
+    }
+    let version = format!("zervuldo {}\n", env!("CARGO_PKG_VERSION"));
+    assert_eq!(printed(&["--version"], GOOD), version);
+}
+
+/// Wrong arguments, P standing for a plan, and what is said of them.
+const WRONG: [(&str, &str); 15] = [
+    ("", "zervuldo: judge the timing"),
+    (
+        "jugde P",
+        "there is no command 'jugde'; did you mean 'judge'?",
+    ),
+    ("judge", "too few arguments: it takes PLAN..."),
+    ("check P", "too few arguments: it takes PLAN EVIDENCE"),
+    ("encode P P", "too many arguments"),
+    ("completion P", "too many arguments: it takes none"),
+    (
+        "judge P --jsn",
+        "there is no option '--jsn' here; did you mean '--json'?",
+    ),
+    ("judge P --json=1", "the option --json takes no value"),
+    ("judge P --json --json", "the option --json is given twice"),
+    ("judge P -o", "FILE is missing after -o"),
+    ("judge P --unit 20", "--unit: the measure is missing"),
+    (
+        "check - -",
+        "standard input, -, can stand for one file only",
+    ),
+    (
+        "help judg",
+        "there is no command 'judg'; did you mean 'judge'?",
+    ),
+    ("judge none", "none: No such file"),
+    ("judge -- -o", "-o: No such file"),
+];
+
+#[test]
+fn wrong_use() {
+    let poll = plan("poll.txt");
+    for (words, said) in WRONG {
+        let words = words.split_whitespace();
+        let words: Vec<&str> = words
+            .map(|word| if word == "P" { &poll } else { word })
+            .collect();
+        let shown = complaint(&words, FAILED);
+        assert!(shown.contains(said), "{words:?}: {shown}");
+    }
+}
+
+#[test]
+fn output_to_a_file() {
+    let out = file("out.svg", "");
+    assert_eq!(
+        printed(&["draw", "--plain", &plan("tiny.txt"), "-o", &out], GOOD),
+        ""
+    );
+    let written = std::fs::read_to_string(&out).unwrap();
+    assert_eq!(
+        written,
+        printed(&["draw", "--plain", &plan("tiny.txt")], GOOD)
+    );
+    assert_eq!(
+        printed(&["decode", &plan("tiny.txt"), "-o", "-"], GOOD)
+            .lines()
+            .count(),
+        4
+    );
+    let shown = complaint(
+        &["encode", &plan("tiny.txt"), "-o", "no/such/folder"],
+        FAILED,
+    );
+    assert!(shown.contains("no/such/folder: No such file"));
+}
+
+/// A full disk is noticed, wherever the output goes, and so is a reader that
+/// went away.
+#[test]
+fn a_full_disk() {
+    let full = || {
+        std::fs::OpenOptions::new()
+            .write(true)
+            .open("/dev/full")
+            .unwrap()
+    };
+    let output = zervuldo()
+        .args(["judge", &plan("tiny.txt")])
+        .stdout(Stdio::from(full()))
+        .output()
+        .unwrap();
+    assert_eq!(output.status.code(), Some(FAILED));
+    let shown = String::from_utf8(output.stderr).unwrap();
+    assert!(shown.contains("No space left on device"), "{shown}");
+    let shown = complaint(&["report", &plan("tiny.txt"), "-o", "/dev/full"], FAILED);
+    assert!(
+        shown.starts_with("/dev/full: No space left on device"),
+        "{shown}"
+    );
+    let mut child = zervuldo()
+        .args(["draw", &plan("largest.txt")])
+        .stdout(Stdio::piped())
+        .stderr(Stdio::piped())
+        .spawn()
+        .unwrap();
+    drop(child.stdout.take());
+    assert_eq!(child.wait().unwrap().code(), Some(FAILED));
+}
+
+/// The man page has every command and option, and none of its signs by chance.
+#[test]
+fn man_page() {
+    let page = printed(&["help", "--man"], GOOD);
+    assert!(page.starts_with(".TH ZERVULDO 1\n.SH NAME\nzervuldo \\- "));
+    for command in COMMANDS {
+        assert!(page.contains(&format!("\n.SS {}", command.name)));
+        for option in command.takes.options {
+            assert!(page.contains(&format!("\n.B {}", option.name.replace('-', "\\-"))));
+        }
+    }
+    let requests = [".TH ", ".SH ", ".SS ", ".TP", ".PP", ".B "];
+    for line in page.lines().filter(|line| line.starts_with(['.', '\''])) {
+        assert!(
+            requests.iter().any(|request| line.starts_with(request)),
+            "{line}"
+        );
+    }
+}
+
+/// Bash itself completes with it.
+#[test]
+fn completion() {
+    let script = file("completion.bash", bytes(&["completion"]));
+    let completed = |words: &str| {
+        let count = words.split(' ').count();
+        let ask = format!(
+            "source {script}; COMP_WORDS=({words}); COMP_CWORD=$(({count} - 1)); _zervuldo; echo \"${{COMPREPLY[*]}}\""
+        );
+        let output = Command::new("bash").args(["-ec", &ask]).output().unwrap();
+        assert!(
+            output.status.success(),
+            "{}",
+            String::from_utf8_lossy(&output.stderr)
+        );
+        String::from_utf8(output.stdout).unwrap()
+    };
+    assert_eq!(completed("zervuldo ju"), "judge\n");
+    assert_eq!(completed("zervuldo judge --e"), "--evidence\n");
+    assert_eq!(completed("zervuldo draw --p"), "--plain\n");
+    assert_eq!(completed("zervuldo help ex"), "explain\n");
+    assert_eq!(completed("zervuldo judge pol"), "\n");
+}
