@@ -32,8 +32,6 @@ use Rattle.op_write.specs.Write.{writtenAnswer, writeAnswer}
 use Rattle.robust.specs.Margin.{margin}
 use Rattle.robust_models.proofs.Models.{margin-uniform}
 use Rattle.op_margin.specs.Margin.{marginAnswer}
-use Rattle.outlook.specs.declared.Outlook.{Outlook}
-use Rattle.outlook.specs.Outlook.{ourMargin, outlookOf}
 use Rattle.outlook.proofs.Found.{margin-few}
 use Rattle.op_sheet_margin.specs.SheetMargin.{boundValues, sheetMarginAnswer}
 use Rattle.op_harm.specs.Harm.{harmValues, harmAnswer}
@@ -191,7 +189,7 @@ margin-refused-is r = omega arith
 -- ---- the margin of the sheet, and harm
 
 pub bound-fields : (bytes lent : List ℕ) → Fields (sheetMarginAnswer bytes lent)
-unfolding sheetMarginAnswer answer boundValues outlookOf
+unfolding sheetMarginAnswer answer boundValues
 bound-fields bytes lent =
     record {
       fit = λ i. cond-ind (λ (a : Answer). value a i ≤ maxField) (eqb (refusal bytes lent) 0)
@@ -202,38 +200,22 @@ bound-fields bytes lent =
     m : Model
     m = modelOf bytes
 
-    few : Lawful m → (i : ℕ) → getD (boundValues (states m) (outlookOf m)) i 0 ≤ maxField
-    few ok i = cond-ind (λ (x : Outlook). getD (boundValues (states m) x) i 0 ≤ maxField) (unsafe (systemOfModel m)) (λ _. bad i) (λ u. good u i)
-      where
-        bad : (i : ℕ) → getD (1 ∷ states m ∷ 0 ∷ []) i 0 ≤ maxField
-        bad zero = omega arith
-        bad (suc zero) = omega (arith, states-limit ok)
-        bad (suc (suc zero)) = zero-le
-        bad (suc (suc (suc i))) = zero-le
-
-        good : unsafe (systemOfModel m) ≡ false → (i : ℕ) → getD (0 ∷ states m ∷ ourMargin m ∷ []) i 0 ≤ maxField
-        good u zero = zero-le
-        good u (suc zero) = omega (arith, states-limit ok)
-        good u (suc (suc zero)) = omega (arith, states-limit ok, margin-few m ok u, ok .clocks)
-        good u (suc (suc (suc i))) = zero-le
+    few : Lawful m → (i : ℕ) → getD (boundValues m) i 0 ≤ maxField
+    few ok zero = omega (arith, bit-le (unsafe (systemOfModel m)))
+    few ok (suc zero) = omega (arith, states-limit ok)
+    few ok (suc (suc zero)) =
+        cond-ind (λ (a : ℕ). a ≤ maxField) (unsafe (systemOfModel m)) (λ _. zero-le)
+        (λ u. omega (arith, states-limit ok, margin-few m ok u, ok .clocks))
+    few ok (suc (suc (suc i))) = zero-le
 
 pub harm-states : (bytes lent : List ℕ) → StatesFit (harmAnswer bytes lent)
-unfolding harmAnswer answer harmValues outlookOf
+unfolding harmAnswer answer harmValues
 harm-states bytes lent =
     record {
       few = cond-ind (λ (a : Answer). value a 1 ≤ maxField) (eqb (refusal bytes lent) 0)
-          (λ t. few (accepted bytes lent (eqb-true _ _ t)))
+          (λ t. omega (arith, states-limit (accepted bytes lent (eqb-true _ _ t))))
           (λ _. zero-le);
     }
-  where
-    m : Model
-    m = modelOf bytes
-
-    few : Lawful m → getD (harmValues (states m) (outlookOf m)) 1 0 ≤ maxField
-    few ok =
-        cond-ind (λ (x : Outlook). getD (harmValues (states m) x) 1 0 ≤ maxField) (unsafe (systemOfModel m))
-        (λ _. omega (arith, states-limit ok))
-        (λ _. omega (arith, states-limit ok))
 
 module _ (s b r : ℕ) (out : List ℕ) where
   -- the word where there is no harm, and where there is, by the room for it

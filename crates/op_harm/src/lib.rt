@@ -4,9 +4,8 @@ ghost use mathlib.Core.Path.{_≡_};
 ghost use Rattle.number.specs.Answer.{answer};
 ghost use Rattle.model.specs.Model.{Lawful};
 ghost use Rattle.graph.specs.States.{states};
-ghost use Rattle.outlook.specs.Outlook.{outlookOf};
 ghost use Rattle.call.specs.Scratch.{lengths, Scratch, Zeroed, ScratchLeft};
-ghost use Rattle.op_harm.specs.Harm.{harmValues, harmAnswer, onsetAnswer};
+ghost use Rattle.op_harm.specs.Harm.{harmValues, harmIn, harmAnswer, onsetAnswer};
 use limits::Word;
 use model::Model;
 use outlook::Outlook;
@@ -19,7 +18,7 @@ pub enum Onset {
 }
 
 fn onset_of(s: usize, found: Outlook) -> Onset
-    ensures { λ r. ⌜ onsetAnswer r ≡ answer 0 (harmValues s found) ⌝ }
+    ensures { λ r. ⌜ onsetAnswer r ≡ answer 0 (harmIn s found) ⌝ }
 {
     match found {
         Outlook::Safe(_) => Onset::Safe(s),
@@ -36,11 +35,11 @@ fn onset_model(
     s4: &mut [Word],
 ) -> Onset
     requires { ⌜ Lawful m × Scratch (states m) (now s1) (now s2) (now s3) (now s4) ⌝ }
-    ensures { λ r. ⌜ onsetAnswer r ≡ answer 0 (harmValues (states m) (outlookOf m)) ⌝ }
+    ensures { λ r. ⌜ onsetAnswer r ≡ answer 0 (harmValues m) ⌝ }
     ensures { λ _. ⌜ Zeroed (states m) (now (s1 .exit)) (now (s2 .exit)) (now (s3 .exit)) (now (s4 .exit)) ⌝ }
 {
     let s = s1.len();
-    let found = outlook::find(m, s1, s2, s3, s4);
+    let found = outlook::find(m, true, s1, s2, s3, s4);
     call::clear_all(s1, s2, s3, s4);
     onset_of(s, found)
 }

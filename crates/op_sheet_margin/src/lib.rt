@@ -4,9 +4,8 @@ ghost use mathlib.Core.Path.{_≡_};
 ghost use Rattle.number.specs.Answer.{answer};
 ghost use Rattle.model.specs.Model.{Lawful};
 ghost use Rattle.graph.specs.States.{states};
-ghost use Rattle.outlook.specs.Outlook.{outlookOf};
 ghost use Rattle.call.specs.Scratch.{lengths, Scratch, Zeroed, ScratchLeft};
-ghost use Rattle.op_sheet_margin.specs.SheetMargin.{boundValues, sheetMarginAnswer, boundAnswer};
+ghost use Rattle.op_sheet_margin.specs.SheetMargin.{boundValues, boundIn, sheetMarginAnswer, boundAnswer};
 use limits::Word;
 use model::Model;
 use outlook::Outlook;
@@ -19,7 +18,7 @@ pub enum Bound {
 }
 
 fn bound_of(s: usize, found: Outlook) -> Bound
-    ensures { λ r. ⌜ boundAnswer r ≡ answer 0 (boundValues s found) ⌝ }
+    ensures { λ r. ⌜ boundAnswer r ≡ answer 0 (boundIn s found) ⌝ }
 {
     match found {
         Outlook::Safe(margin) => Bound::Safe(s, margin),
@@ -36,11 +35,11 @@ fn bound_model(
     s4: &mut [Word],
 ) -> Bound
     requires { ⌜ Lawful m × Scratch (states m) (now s1) (now s2) (now s3) (now s4) ⌝ }
-    ensures { λ r. ⌜ boundAnswer r ≡ answer 0 (boundValues (states m) (outlookOf m)) ⌝ }
+    ensures { λ r. ⌜ boundAnswer r ≡ answer 0 (boundValues m) ⌝ }
     ensures { λ _. ⌜ Zeroed (states m) (now (s1 .exit)) (now (s2 .exit)) (now (s3 .exit)) (now (s4 .exit)) ⌝ }
 {
     let s = s1.len();
-    let found = outlook::find(m, s1, s2, s3, s4);
+    let found = outlook::find(m, false, s1, s2, s3, s4);
     call::clear_all(s1, s2, s3, s4);
     bound_of(s, found)
 }

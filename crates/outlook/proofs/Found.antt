@@ -1,6 +1,6 @@
 -- The outlook of a model from what is found of its states.
 use mathlib.Core.Path.{_≡_, refl, sym, ap, subst, _∙_}
-use mathlib.Core.Bool.{true, false}
+use mathlib.Core.Bool.{Bool, true, false}
 use mathlib.Core.Logic.{⊎-elim}
 use mathlib.Core.List.{List}
 use Prim.Native.Nat.{ℕ, _+_, _*_, _≤_}
@@ -25,16 +25,29 @@ use Rattle.trail_delay.specs.declared.Delay.{Delay}
 use Rattle.trail_delay.specs.Ours.{ourDelay}
 use Rattle.outlook.specs.declared.Outlook.{Outlook}
 use Rattle.outlook.specs.declared.Outlook.the-variants.{Safe, Unsafe}
-use Rattle.outlook.specs.Outlook.{ourMargin, outlookOf}
+use Rattle.outlook.specs.Outlook.{ourMargin, outlookFor}
 
 module _ (m : Model) where
-  pub unsafe-found : unsafe (systemOfModel m) ≡ true → (d : Delay) → d ≡ ourDelay m → Unsafe (d .base) (d .rate) ≡ outlookOf m
-  unfolding outlookOf
-  unsafe-found u d e = rw (u, e) refl
+  module _ (harm : Bool) where
+    -- harm is asked for
+    module _ (t : harm ≡ true) where
+      pub delay-found : unsafe (systemOfModel m) ≡ true → (d : Delay) → d ≡ ourDelay m → Unsafe (d .base) (d .rate) ≡ outlookFor harm m
+      unfolding outlookFor
+      delay-found u d e = rw (u, t, e) refl
 
-  pub safe-found : unsafe (systemOfModel m) ≡ false → (a : ℕ) → a ≡ ourMargin m → Safe a ≡ outlookOf m
-  unfolding outlookOf
-  safe-found u a e = rw (u, e) refl
+      pub safe-found : unsafe (systemOfModel m) ≡ false → Safe 0 ≡ outlookFor harm m
+      unfolding outlookFor
+      safe-found u = rw (u, t) refl
+
+    -- or the margin
+    module _ (f : harm ≡ false) where
+      pub bound-found : unsafe (systemOfModel m) ≡ false → (a : ℕ) → a ≡ ourMargin m → Safe a ≡ outlookFor harm m
+      unfolding outlookFor
+      bound-found u a e = rw (u, f, e) refl
+
+      pub unsafe-found : unsafe (systemOfModel m) ≡ true → Unsafe 0 0 ≡ outlookFor harm m
+      unfolding outlookFor
+      unsafe-found u = rw (u, f) refl
 
   -- our sheet passes where no marked state is forbidden
   module _ (ok : Lawful m) (u : unsafe (systemOfModel m) ≡ false) (sheet : List ℕ) (e : sheet ≡ ourSheet (systemOfModel m)) where

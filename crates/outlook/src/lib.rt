@@ -14,7 +14,7 @@ ghost use Rattle.region_corners.specs.Shapes.{Linked};
 ghost use Rattle.tables.specs.Tables.{Room, Steps};
 ghost use Rattle.call.specs.Scratch.{Scratch};
 ghost use Rattle.survey.specs.Surveyed.{Surveyed, Levelled};
-ghost use Rattle.outlook.specs.Outlook.{ourMargin, outlookOf};
+ghost use Rattle.outlook.specs.Outlook.{ourMargin, outlookFor};
 use limits::MAX_REGIONS;
 use limits::MAX_STATES;
 use limits::MAX_STEPS;
@@ -28,7 +28,7 @@ use model::Model;
 use shapes::MAX_SHAPES;
 use shapes::SMALL_SHAPES;
 
-// The margin of our sheet if the plan is safe, or else the base and the rate of our trail.
+// The margin of our sheet if the plan is safe, or else the base and the rate of our trail; 0 for what is not asked for.
 pub enum Outlook {
     Safe(usize),
     Unsafe(u64, u64),
@@ -76,9 +76,10 @@ fn margin_of(
     span_of(entries) + from_byte(m.clocks)
 }
 
-// With all that is known of the states: the trail where a marked state is forbidden, or else the sheet.
+// With all that is known of the states: by the trail where a marked state is forbidden, or else by the sheet.
 fn outlook_found(
     m: Model,
+    harm: bool,
     table: &[u32],
     allowed: &mut [u8],
     first: &[u32],
@@ -91,12 +92,15 @@ fn outlook_found(
 ) -> Outlook
     requires { ⌜ Lawful m × Listed m (now table) × Steps m (now allowed) (now first) (now targets) × Linked (m .clocks) (m .ceiling) (now shapes)
         × Levelled m (now heights) (now distance) (now queue) × (length (now queue) ≡ states m) × (length (now path) ≡ states m) ⌝ }
-    ensures { λ r. ⌜ r ≡ outlookOf m ⌝ }
+    ensures { λ r. ⌜ r ≡ outlookFor harm m ⌝ }
 {
     let kind = m.kind;
     let r = from_short(region_table::count(m.clocks, m.ceiling));
     let steps = marking::fewest(distance, &kind, r);
     if steps < distance.len() {
+        if !harm {
+            return Outlook::Unsafe(0, 0);
+        }
         let start = from_byte(m.start) * r;
         trail_states::trail_states(
             steps,
@@ -123,6 +127,9 @@ fn outlook_found(
         );
         return Outlook::Unsafe(delay.base, delay.rate);
     }
+    if harm {
+        return Outlook::Safe(0);
+    }
     Outlook::Safe(margin_of(
         m,
         table,
@@ -140,6 +147,7 @@ fn outlook_found(
 // With tables lent to be filled.
 fn fill_and_look(
     m: Model,
+    harm: bool,
     table: &[u32],
     allowed: &mut [u8],
     first: &mut [u32],
@@ -152,17 +160,30 @@ fn fill_and_look(
 ) -> Outlook
     requires { ⌜ Lawful m × Listed m (now table) × Room m (now allowed) (now first) (now targets) (now shapes) ⌝ }
     requires { ⌜ Scratch (states m) (now s1) (now s2) (now s3) (now s4) ⌝ }
-    ensures { λ r. ⌜ r ≡ outlookOf m ⌝ }
+    ensures { λ r. ⌜ r ≡ outlookFor harm m ⌝ }
 {
     tables::fill_tables(m, table, allowed, first, targets, shapes);
     region_corners::link_corners(table.len(), shapes);
     survey::search(m, first, targets, shapes, s1, s2, s3, s4);
-    outlook_found(m, table, allowed, first, targets, shapes, s1, s2, s3, s4)
+    outlook_found(
+        m,
+        harm,
+        table,
+        allowed,
+        first,
+        targets,
+        shapes,
+        s1,
+        s2,
+        s3,
+        s4,
+    )
 }
 
 // With tables of its own, for any plan.
 fn look_large(
     m: Model,
+    harm: bool,
     table: &[u32],
     s1: &mut [Word],
     s2: &mut [Word],
@@ -170,7 +191,7 @@ fn look_large(
     s4: &mut [Word],
 ) -> Outlook
     requires { ⌜ Lawful m × Listed m (now table) × Scratch (states m) (now s1) (now s2) (now s3) (now s4) ⌝ }
-    ensures { λ r. ⌜ r ≡ outlookOf m ⌝ }
+    ensures { λ r. ⌜ r ≡ outlookFor harm m ⌝ }
 {
     let mut allowed = [0u8; MAX_STATES];
     let mut first = [0u32; MAX_STATES + 1];
@@ -181,6 +202,7 @@ fn look_large(
     let end = shapes::shapes_end(table.len());
     fill_and_look(
         m,
+        harm,
         table,
         &mut allowed[..s],
         &mut first[..firsts],
@@ -196,6 +218,7 @@ fn look_large(
 // The same for a small plan: the smaller tables are sooner made.
 fn look_small(
     m: Model,
+    harm: bool,
     table: &[u32],
     s1: &mut [Word],
     s2: &mut [Word],
@@ -204,7 +227,7 @@ fn look_small(
 ) -> Outlook
     requires { ⌜ Lawful m × Listed m (now table) × Scratch (states m) (now s1) (now s2) (now s3) (now s4) ⌝ }
     requires { ⌜ length (now table) ≤ smallRegions ⌝ }
-    ensures { λ r. ⌜ r ≡ outlookOf m ⌝ }
+    ensures { λ r. ⌜ r ≡ outlookFor harm m ⌝ }
 {
     let mut allowed = [0u8; SMALL_STATES];
     let mut first = [0u32; SMALL_STATES + 1];
@@ -215,6 +238,7 @@ fn look_small(
     let end = shapes::shapes_end(table.len());
     fill_and_look(
         m,
+        harm,
         table,
         &mut allowed[..s],
         &mut first[..firsts],
@@ -227,15 +251,22 @@ fn look_small(
     )
 }
 
-// What drift does to a model in the end. What the four slices held before does not matter; they are left with numbers of the search.
-pub fn find(m: Model, s1: &mut [Word], s2: &mut [Word], s3: &mut [Word], s4: &mut [Word]) -> Outlook
+// What drift does to a model in the end: harm, if that is asked for, or else the margin. What the four slices held before does not matter; they are left with numbers of the search.
+pub fn find(
+    m: Model,
+    harm: bool,
+    s1: &mut [Word],
+    s2: &mut [Word],
+    s3: &mut [Word],
+    s4: &mut [Word],
+) -> Outlook
     requires { ⌜ Lawful m × Scratch (states m) (now s1) (now s2) (now s3) (now s4) ⌝ }
-    ensures { λ r. ⌜ r ≡ outlookOf m ⌝ }
+    ensures { λ r. ⌜ r ≡ outlookFor harm m ⌝ }
 {
     let mut table = [0u32; MAX_REGIONS];
     let r = region_table::select(m.clocks, m.ceiling, &mut table);
     if r <= SMALL_REGIONS {
-        return look_small(m, &table[..r], s1, s2, s3, s4);
+        return look_small(m, harm, &table[..r], s1, s2, s3, s4);
     }
-    look_large(m, &table[..r], s1, s2, s3, s4)
+    look_large(m, harm, &table[..r], s1, s2, s3, s4)
 }

@@ -1,12 +1,9 @@
 -- `op_sheet_margin::bound_model` meets its contract.
 use borrow.Author.Needs.{needs}
-use Prim.Native.Nat.{ℕ}
 use mathlib.Core.Path.{ap, _∙_}
 use Rattle.number.specs.Answer.{answer}
-use Rattle.graph.specs.States.{states}
-use Rattle.outlook.specs.declared.Outlook.{Outlook}
 use Rattle.call.proofs.Frames.{zeroed}
-use Rattle.op_sheet_margin.specs.SheetMargin.{boundValues}
+use Rattle.op_sheet_margin.proofs.Answered.{found-values}
 use Rattle.op_sheet_margin.proofs.bound_model.Statement.{statement}
 use Rattle.op_sheet_margin.proofs.bound_model.Tie as tie
 
@@ -35,8 +32,8 @@ returns : tie.Need-returns
 returns c =
     let lent = c .before .before .before .before .before .before .before .before .before .before .before .before .before .before .before .before .before .before .before .before .before .before .before .before .before .before .before .before .before .before .before .pre .1 in
     let kept = c .before .before .before .before .before .before .before .before .before .before .before .before .before .before .before .before .before .before .before .before .before .before .find .kept in (
-      c .bound-of .ensures ∙ ap (λ (s : ℕ). answer 0 (boundValues s (c .before .before .before .before .before .before .before .before .before .before .before .before .before .before .before .before .before .before .before .before .before .before .find .result))) (lent .first) ∙ ap (λ (x : Outlook). answer 0 (boundValues (states (c .before .before .before .before .before .before .before .before .before .before .before .before .before .before .before .before .before .before .before .before .before .before .before .before .before .before .before .before .before .before .before .args .m)) x)) (c .before .before .before .before .before .before .before .before .before .before .before .before .before .before .before .before .before .before .before .before .before .before .find .ensures),
-      zeroed (c .before .before .before .before .before .before .before .before .before .clear-all .ensures) (kept .1 .0 ∙ lent .first) (kept .1 .1 .0 ∙ lent .second) (kept .1 .1 .1 .0 ∙ lent .third) (kept .1 .1 .1 .1 .0 ∙ lent .fourth),
+      c .bound-of .ensures ∙ ap (answer 0) (found-values (c .before .before .before .before .before .before .before .before .before .before .before .before .before .before .before .before .before .before .before .before .before .before .before .before .before .before .before .before .before .before .before .args .m) _ _ (lent .first) (c .before .before .before .before .before .before .before .before .before .before .before .before .before .before .before .before .before .before .before .before .before .before .find .ensures)),
+      zeroed (c .before .before .before .before .before .before .before .before .before .clear-all .ensures) (kept .1 .1 .0 ∙ lent .first) (kept .1 .1 .1 .0 ∙ lent .second) (kept .1 .1 .1 .1 .0 ∙ lent .third) (kept .1 .1 .1 .1 .1 .0 ∙ lent .fourth),
     )
 
 pub bound-model-spec : {M : Type 1} → statement M

@@ -5,8 +5,6 @@ use mathlib.Core.Path.{sym, ap, _∙_}
 use lib.Seq.{length-take-le}
 use Rattle.number.specs.Answer.{answer}
 use Rattle.model.specs.declared.Model.{Model}
-use Rattle.graph.specs.States.{states}
-use Rattle.outlook.specs.Outlook.{outlookOf}
 use Rattle.call.proofs.Calls.{refused-by, untouched, taken, model-is, lawful, room, parts, zero-left}
 use Rattle.op_sheet_margin.specs.SheetMargin.{boundValues}
 use Rattle.op_sheet_margin.proofs.Answered.{sheet-margin-refused, sheet-margin-done}
@@ -96,7 +94,7 @@ returns-2 c =
     let admit = c .before .before .before .before .before .before .before .before .before .before .before .before .before .before .before .admit in
     let z = c .before .before .before .before .before .before .before .before .before .before .before .before .before .before .if1 .left in
     let done = c .before .before .before .before .before .before .before .before .bound-model .ensures in
-    (done .0 ∙ ap (λ (m : Model). answer 0 (boundValues (states m) (outlookOf m))) (model-is (a .bytes .now) (a .s1 .now) (a .s2 .now) (a .s3 .now) (a .s4 .now) (admit .result) (admit .ensures) z) ∙ sym (sheet-margin-done _ _ (taken (a .bytes .now) (a .s1 .now) (a .s2 .now) (a .s3 .now) (a .s4 .now) (admit .result) (admit .ensures) z)), zero-left (a .bytes .now) (a .s1 .now) (a .s2 .now) (a .s3 .now) (a .s4 .now) (admit .result) (admit .ensures) z _ _ _ _ (done .1))
+    (done .0 ∙ ap (λ (m : Model). answer 0 (boundValues m)) (model-is (a .bytes .now) (a .s1 .now) (a .s2 .now) (a .s3 .now) (a .s4 .now) (admit .result) (admit .ensures) z) ∙ sym (sheet-margin-done _ _ (taken (a .bytes .now) (a .s1 .now) (a .s2 .now) (a .s3 .now) (a .s4 .now) (admit .result) (admit .ensures) z)), zero-left (a .bytes .now) (a .s1 .now) (a .s2 .now) (a .s3 .now) (a .s4 .now) (admit .result) (admit .ensures) z _ _ _ _ (done .1))
 
 pub sheet-margin-spec : {M : Type 1} → statement M
 sheet-margin-spec =

@@ -3,6 +3,7 @@ use borrow.Author.Needs.{needs}
 use native.Mathlib.Omega.{arith}
 use mathlib.Core.Path.{sym, _∙_}
 use lib.Seq.{length-take-le}
+use borrow.Author.Tests.{not-true, not-false}
 use Rattle.graph.proofs.Plan.{size-states}
 use Rattle.graph.specs.Plan.{systemOfModel}
 use Rattle.graph.proofs.Models.{system-laws}
@@ -10,7 +11,7 @@ use Rattle.graph.proofs.States.{clocks-of, ceiling-of}
 use Rattle.survey.proofs.Tables.{start-product}
 use Rattle.survey.proofs.Forbidden.{kinds, forbids-by}
 use Rattle.evidence_writer.proofs.Verdict.{unsafe-by, safe-by, trail-asked, trail-told}
-use Rattle.outlook.proofs.Found.{unsafe-found, safe-found}
+use Rattle.outlook.proofs.Found.{unsafe-found, delay-found, safe-found, bound-found}
 use Rattle.outlook.proofs.outlook_found.Statement.{statement}
 use Rattle.outlook.proofs.outlook_found.Tie as tie
 
@@ -40,11 +41,11 @@ fewest-requires c κs =
     let e = c .before .before .from-short .ensures ∙ c .before .before .before .count .ensures in
     kinds m ok (start .args .distance .now) r (K .surveyed .distances) e
 
-from-byte-requires : tie.Need-from-byte-requires
-from-byte-requires c κs = search needs
+same-length : tie.Need-same-length
+same-length c = search needs
 
-mul-start : tie.Need-mul-start
-mul-start c =
+returns : tie.Need-returns
+returns c =
     let start = c .before .before .before .before .before .before .before .before .before .before .before .before .before .before .before .before .before in
     let m = start .args .m in
     let ok = start .pre .0 in
@@ -52,6 +53,22 @@ mul-start c =
     let K = start .pre .4 in
     let r = c .before .before .before .before .before .from-short .result in
     let e = c .before .before .before .before .before .from-short .ensures ∙ c .before .before .before .before .before .before .count .ensures in
+    let steps = c .before .before .fewest .result in
+    let s = c .before .before .fewest .ensures (systemOfModel m) (system-laws m ok) (K .surveyed .distances) (forbids-by m ok r e) in
+    unsafe-found m _ (not-true _ (c .if2 .taken)) (unsafe-by m ok F (start .pre .3) K r e steps s (c .before .if1 .taken))
+
+from-byte-requires : tie.Need-from-byte-requires
+from-byte-requires c κs = search needs
+
+mul-start : tie.Need-mul-start
+mul-start c =
+    let start = c .before .before .before .before .before .before .before .before .before .before .before .before .before .before .before .before .before .before in
+    let m = start .args .m in
+    let ok = start .pre .0 in
+    let F = start .pre .2 .flow in
+    let K = start .pre .4 in
+    let r = c .before .before .before .before .before .before .from-short .result in
+    let e = c .before .before .before .before .before .before .from-short .ensures ∙ c .before .before .before .before .before .before .before .count .ensures in
     rw (c .from-byte .ensures) (omega (arith, start-product m ok r e))
 
 slice-aggregate-trail-states : tie.Need-slice-aggregate-trail-states
@@ -59,46 +76,46 @@ slice-aggregate-trail-states c = search needs
 
 trail-states-requires : tie.Need-trail-states-requires
 trail-states-requires c κs =
-    let start = c .before .before .before .before .before .before .before .before .before .before .before .before .before .before .before .before .before .before .before .before .before .before in
+    let start = c .before .before .before .before .before .before .before .before .before .before .before .before .before .before .before .before .before .before .before .before .before .before .before in
     let m = start .args .m in
     let ok = start .pre .0 in
     let F = start .pre .2 .flow in
     let K = start .pre .4 in
-    let r = c .before .before .before .before .before .before .before .before .before .before .from-short .result in
-    let e = c .before .before .before .before .before .before .before .before .before .before .from-short .ensures ∙ c .before .before .before .before .before .before .before .before .before .before .before .count .ensures in
-    let steps = c .before .before .before .before .before .before .before .fewest .result in
-    let s = c .before .before .before .before .before .before .before .fewest .ensures (systemOfModel m) (system-laws m ok) (K .surveyed .distances) (forbids-by m ok r e) in
-    rw (c .before .before .before .before .before .from-byte .ensures) (trail-asked m ok F (start .pre .3) K r e steps s _ (start .pre .6) (start .pre .5) (c .before .before .before .before .before .before .if1 .taken))
+    let r = c .before .before .before .before .before .before .before .before .before .before .before .from-short .result in
+    let e = c .before .before .before .before .before .before .before .before .before .before .before .from-short .ensures ∙ c .before .before .before .before .before .before .before .before .before .before .before .before .count .ensures in
+    let steps = c .before .before .before .before .before .before .before .before .fewest .result in
+    let s = c .before .before .before .before .before .before .before .before .fewest .ensures (systemOfModel m) (system-laws m ok) (K .surveyed .distances) (forbids-by m ok r e) in
+    rw (c .before .before .before .before .before .from-byte .ensures) (trail-asked m ok F (start .pre .3) K r e steps s _ (start .pre .6) (start .pre .5) (c .before .before .before .before .before .before .before .if1 .taken))
 
 slice-reshare-prefix-trail-delay : tie.Need-slice-reshare-prefix-trail-delay
 slice-reshare-prefix-trail-delay c =
-    let start = c .before .before .before .before .before .before .before .before .before .before .before .before .before .before .before .before .before .before .before .before .before .before .before .before .before .before .before in
-    let m = start .args .m in
-    let ok = start .pre .0 in
-    let F = start .pre .2 .flow in
-    let K = start .pre .4 in
-    omega (arith, c .before .before .before .before .trail-states .kept .1 .1 .1 .1 .1 .1 .1 .1 .1 .1 .0, start .pre .6, c .before .before .before .before .before .before .before .before .before .before .before .if1 .taken, K .surveyed .distances .long, size-states m)
-
-slice-aggregate-trail-delay : tie.Need-slice-aggregate-trail-delay
-slice-aggregate-trail-delay c =
     let start = c .before .before .before .before .before .before .before .before .before .before .before .before .before .before .before .before .before .before .before .before .before .before .before .before .before .before .before .before in
     let m = start .args .m in
     let ok = start .pre .0 in
     let F = start .pre .2 .flow in
     let K = start .pre .4 in
-    sym (length-take-le _ _ (omega (arith, c .before .before .before .before .before .trail-states .kept .1 .1 .1 .1 .1 .1 .1 .1 .1 .1 .0, start .pre .6, c .before .before .before .before .before .before .before .before .before .before .before .before .if1 .taken, K .surveyed .distances .long, size-states m)))
+    omega (arith, c .before .before .before .before .trail-states .kept .1 .1 .1 .1 .1 .1 .1 .1 .1 .1 .0, start .pre .6, c .before .before .before .before .before .before .before .before .before .before .before .before .if1 .taken, K .surveyed .distances .long, size-states m)
 
-trail-delay-requires : tie.Need-trail-delay-requires
-trail-delay-requires c κs =
-    let start = c .before .before .before .before .before .before .before .before .before .before .before .before .before .before .before .before .before .before .before .before .before .before .before .before .before .before .before .before .before .before .before in
+slice-aggregate-trail-delay : tie.Need-slice-aggregate-trail-delay
+slice-aggregate-trail-delay c =
+    let start = c .before .before .before .before .before .before .before .before .before .before .before .before .before .before .before .before .before .before .before .before .before .before .before .before .before .before .before .before .before in
     let m = start .args .m in
     let ok = start .pre .0 in
     let F = start .pre .2 .flow in
     let K = start .pre .4 in
-    let r = c .before .before .before .before .before .before .before .before .before .before .before .before .before .before .before .before .before .before .before .from-short .result in
-    let e = c .before .before .before .before .before .before .before .before .before .before .before .before .before .before .before .before .before .before .before .from-short .ensures ∙ c .before .before .before .before .before .before .before .before .before .before .before .before .before .before .before .before .before .before .before .before .count .ensures in
-    let steps = c .before .before .before .before .before .before .before .before .before .before .before .before .before .before .before .before .fewest .result in
-    let s = c .before .before .before .before .before .before .before .before .before .before .before .before .before .before .before .before .fewest .ensures (systemOfModel m) (system-laws m ok) (K .surveyed .distances) (forbids-by m ok r e) in
+    sym (length-take-le _ _ (omega (arith, c .before .before .before .before .before .trail-states .kept .1 .1 .1 .1 .1 .1 .1 .1 .1 .1 .0, start .pre .6, c .before .before .before .before .before .before .before .before .before .before .before .before .before .if1 .taken, K .surveyed .distances .long, size-states m)))
+
+trail-delay-requires : tie.Need-trail-delay-requires
+trail-delay-requires c κs =
+    let start = c .before .before .before .before .before .before .before .before .before .before .before .before .before .before .before .before .before .before .before .before .before .before .before .before .before .before .before .before .before .before .before .before in
+    let m = start .args .m in
+    let ok = start .pre .0 in
+    let F = start .pre .2 .flow in
+    let K = start .pre .4 in
+    let r = c .before .before .before .before .before .before .before .before .before .before .before .before .before .before .before .before .before .before .before .before .from-short .result in
+    let e = c .before .before .before .before .before .before .before .before .before .before .before .before .before .before .before .before .before .before .before .before .from-short .ensures ∙ c .before .before .before .before .before .before .before .before .before .before .before .before .before .before .before .before .before .before .before .before .before .count .ensures in
+    let steps = c .before .before .before .before .before .before .before .before .before .before .before .before .before .before .before .before .before .fewest .result in
+    let s = c .before .before .before .before .before .before .before .before .before .before .before .before .before .before .before .before .before .fewest .ensures (systemOfModel m) (system-laws m ok) (K .surveyed .distances) (forbids-by m ok r e) in
     let states = c .before .before .before .before .before .before .before .before .trail-states in (
       record {
         lawful = ok;
@@ -108,12 +125,9 @@ trail-delay-requires c κs =
         queue-long = states .kept .1 .1 .1 .1 .1 .1 .1 .1 .0 ∙ (K .surveyed .distances .long ∙ size-states m);
         walk-long = start .pre .5;
       },
-      unsafe-by m ok F (start .pre .3) K r e steps s (c .before .before .before .before .before .before .before .before .before .before .before .before .before .before .before .if1 .taken),
+      unsafe-by m ok F (start .pre .3) K r e steps s (c .before .before .before .before .before .before .before .before .before .before .before .before .before .before .before .before .if1 .taken),
       states .ensures .1 (systemOfModel m) (rw (c .before .before .before .before .before .before .before .before .before .before .before .before .before .before .from-byte .ensures) (trail-told m ok F (start .pre .3) K r e steps s)),
     )
-
-same-length : tie.Need-same-length
-same-length c = search needs
 
 same-length-2 : tie.Need-same-length-2
 same-length-2 c = search needs
@@ -124,37 +138,50 @@ same-length-3 c = search needs
 same-length-4 : tie.Need-same-length-4
 same-length-4 c = search needs
 
-returns : tie.Need-returns
-returns c =
-    let start = c .before .before .before .before .before .before .before .before .before .before .before .before .before .before .before .before .before .before .before .before .before .before .before .before .before .before .before .before .before .before .before .before .before .before .before .before .before .before in
-    let m = start .args .m in
-    let ok = start .pre .0 in
-    let F = start .pre .2 .flow in
-    let K = start .pre .4 in
-    let r = c .before .before .before .before .before .before .before .before .before .before .before .before .before .before .before .before .before .before .before .before .before .before .before .before .before .before .from-short .result in
-    let e = c .before .before .before .before .before .before .before .before .before .before .before .before .before .before .before .before .before .before .before .before .before .before .before .before .before .before .from-short .ensures ∙ c .before .before .before .before .before .before .before .before .before .before .before .before .before .before .before .before .before .before .before .before .before .before .before .before .before .before .before .count .ensures in
-    let steps = c .before .before .before .before .before .before .before .before .before .before .before .before .before .before .before .before .before .before .before .before .before .before .before .fewest .result in
-    let s = c .before .before .before .before .before .before .before .before .before .before .before .before .before .before .before .before .before .before .before .before .before .before .before .fewest .ensures (systemOfModel m) (system-laws m ok) (K .surveyed .distances) (forbids-by m ok r e) in
-    unsafe-found m (unsafe-by m ok F (start .pre .3) K r e steps s (c .before .before .before .before .before .before .before .before .before .before .before .before .before .before .before .before .before .before .before .before .before .before .if1 .taken)) _ (c .before .before .before .before .before .before .trail-delay .ensures)
-
-margin-of-requires : tie.Need-margin-of-requires
-margin-of-requires c κs =
-    let start = c .before .before .before .before .before .before .before .before .before .before .before .before .before .before .before .before .before .before .before .before .before in
-    let m = start .args .m in
-    let ok = start .pre .0 in
-    let F = start .pre .2 .flow in
-    let K = start .pre .4 in
-    let r = c .before .before .before .before .before .before .before .before .before .from-short .result in
-    let e = c .before .before .before .before .before .before .before .before .before .from-short .ensures ∙ c .before .before .before .before .before .before .before .before .before .before .count .ensures in
-    let steps = c .before .before .before .before .before .before .fewest .result in
-    let s = c .before .before .before .before .before .before .fewest .ensures (systemOfModel m) (system-laws m ok) (K .surveyed .distances) (forbids-by m ok r e) in
-    ((ok, start .pre .1, start .pre .2, start .pre .3), ((K .surveyed, start .pre .5, start .pre .6), safe-by m ok F (start .pre .3) K r e steps s (c .before .before .before .before .before .if1 .left)))
-
 same-length-5 : tie.Need-same-length-5
 same-length-5 c = search needs
 
+returns-2 : tie.Need-returns-2
+returns-2 c =
+    let start = c .before .before .before .before .before .before .before .before .before .before .before .before .before .before .before .before .before .before .before .before .before .before .before .before .before .before .before .before .before .before .before .before .before .before .before .before .before .before .before in
+    let m = start .args .m in
+    let ok = start .pre .0 in
+    let F = start .pre .2 .flow in
+    let K = start .pre .4 in
+    let r = c .before .before .before .before .before .before .before .before .before .before .before .before .before .before .before .before .before .before .before .before .before .before .before .before .before .before .before .from-short .result in
+    let e = c .before .before .before .before .before .before .before .before .before .before .before .before .before .before .before .before .before .before .before .before .before .before .before .before .before .before .before .from-short .ensures ∙ c .before .before .before .before .before .before .before .before .before .before .before .before .before .before .before .before .before .before .before .before .before .before .before .before .before .before .before .before .count .ensures in
+    let steps = c .before .before .before .before .before .before .before .before .before .before .before .before .before .before .before .before .before .before .before .before .before .before .before .before .fewest .result in
+    let s = c .before .before .before .before .before .before .before .before .before .before .before .before .before .before .before .before .before .before .before .before .before .before .before .before .fewest .ensures (systemOfModel m) (system-laws m ok) (K .surveyed .distances) (forbids-by m ok r e) in
+    delay-found m _ (not-false _ (c .before .before .before .before .before .before .before .before .before .before .before .before .before .before .before .before .before .before .before .before .before .before .if2 .left)) (unsafe-by m ok F (start .pre .3) K r e steps s (c .before .before .before .before .before .before .before .before .before .before .before .before .before .before .before .before .before .before .before .before .before .before .before .if1 .taken)) _ (c .before .before .before .before .before .before .trail-delay .ensures)
+
 same-length-6 : tie.Need-same-length-6
 same-length-6 c = search needs
+
+returns-3 : tie.Need-returns-3
+returns-3 c =
+    let start = c .before .before .before .before .before .before .before .before .before .before .before .before .before .before .before .before .before in
+    let m = start .args .m in
+    let ok = start .pre .0 in
+    let F = start .pre .2 .flow in
+    let K = start .pre .4 in
+    let r = c .before .before .before .before .before .from-short .result in
+    let e = c .before .before .before .before .before .from-short .ensures ∙ c .before .before .before .before .before .before .count .ensures in
+    let steps = c .before .before .fewest .result in
+    let s = c .before .before .fewest .ensures (systemOfModel m) (system-laws m ok) (K .surveyed .distances) (forbids-by m ok r e) in
+    safe-found m _ (c .if3 .taken) (safe-by m ok F (start .pre .3) K r e steps s (c .before .if1 .left))
+
+margin-of-requires : tie.Need-margin-of-requires
+margin-of-requires c κs =
+    let start = c .before .before .before .before .before .before .before .before .before .before .before .before .before .before .before .before .before .before .before .before .before .before in
+    let m = start .args .m in
+    let ok = start .pre .0 in
+    let F = start .pre .2 .flow in
+    let K = start .pre .4 in
+    let r = c .before .before .before .before .before .before .before .before .before .before .from-short .result in
+    let e = c .before .before .before .before .before .before .before .before .before .before .from-short .ensures ∙ c .before .before .before .before .before .before .before .before .before .before .before .count .ensures in
+    let steps = c .before .before .before .before .before .before .before .fewest .result in
+    let s = c .before .before .before .before .before .before .before .fewest .ensures (systemOfModel m) (system-laws m ok) (K .surveyed .distances) (forbids-by m ok r e) in
+    ((ok, start .pre .1, start .pre .2, start .pre .3), ((K .surveyed, start .pre .5, start .pre .6), safe-by m ok F (start .pre .3) K r e steps s (c .before .before .before .before .before .before .if1 .left)))
 
 same-length-7 : tie.Need-same-length-7
 same-length-7 c = search needs
@@ -165,18 +192,24 @@ same-length-8 c = search needs
 same-length-9 : tie.Need-same-length-9
 same-length-9 c = search needs
 
-returns-2 : tie.Need-returns-2
-returns-2 c =
-    let start = c .before .before .before .before .before .before .before .before .before .before .before .before .before .before .before .before .before .before .before .before .before .before .before .before .before .before .before .before .before .before .before .before in
+same-length-10 : tie.Need-same-length-10
+same-length-10 c = search needs
+
+same-length-11 : tie.Need-same-length-11
+same-length-11 c = search needs
+
+returns-4 : tie.Need-returns-4
+returns-4 c =
+    let start = c .before .before .before .before .before .before .before .before .before .before .before .before .before .before .before .before .before .before .before .before .before .before .before .before .before .before .before .before .before .before .before .before .before in
     let m = start .args .m in
     let ok = start .pre .0 in
     let F = start .pre .2 .flow in
     let K = start .pre .4 in
-    let r = c .before .before .before .before .before .before .before .before .before .before .before .before .before .before .before .before .before .before .before .before .from-short .result in
-    let e = c .before .before .before .before .before .before .before .before .before .before .before .before .before .before .before .before .before .before .before .before .from-short .ensures ∙ c .before .before .before .before .before .before .before .before .before .before .before .before .before .before .before .before .before .before .before .before .before .count .ensures in
-    let steps = c .before .before .before .before .before .before .before .before .before .before .before .before .before .before .before .before .before .fewest .result in
-    let s = c .before .before .before .before .before .before .before .before .before .before .before .before .before .before .before .before .before .fewest .ensures (systemOfModel m) (system-laws m ok) (K .surveyed .distances) (forbids-by m ok r e) in
-    safe-found m (safe-by m ok F (start .pre .3) K r e steps s (c .before .before .before .before .before .before .before .before .before .before .before .before .before .before .before .before .if1 .left)) _ (c .before .before .before .before .before .before .before .before .before .before .margin-of .ensures)
+    let r = c .before .before .before .before .before .before .before .before .before .before .before .before .before .before .before .before .before .before .before .before .before .from-short .result in
+    let e = c .before .before .before .before .before .before .before .before .before .before .before .before .before .before .before .before .before .before .before .before .before .from-short .ensures ∙ c .before .before .before .before .before .before .before .before .before .before .before .before .before .before .before .before .before .before .before .before .before .before .count .ensures in
+    let steps = c .before .before .before .before .before .before .before .before .before .before .before .before .before .before .before .before .before .before .fewest .result in
+    let s = c .before .before .before .before .before .before .before .before .before .before .before .before .before .before .before .before .before .before .fewest .ensures (systemOfModel m) (system-laws m ok) (K .surveyed .distances) (forbids-by m ok r e) in
+    bound-found m _ (c .before .before .before .before .before .before .before .before .before .before .before .before .before .before .before .before .if3 .left) (safe-by m ok F (start .pre .3) K r e steps s (c .before .before .before .before .before .before .before .before .before .before .before .before .before .before .before .before .before .if1 .left)) _ (c .before .before .before .before .before .before .before .before .before .before .margin-of .ensures)
 
 pub outlook-found-spec : {M : Type 1} → statement M
 outlook-found-spec =
@@ -186,6 +219,8 @@ outlook-found-spec =
     from-short-requires
     slice-aggregate-fewest
     fewest-requires
+    same-length
+    returns
     from-byte-requires
     mul-start
     slice-aggregate-trail-states
@@ -193,15 +228,17 @@ outlook-found-spec =
     slice-reshare-prefix-trail-delay
     slice-aggregate-trail-delay
     trail-delay-requires
-    same-length
     same-length-2
     same-length-3
     same-length-4
-    returns
-    margin-of-requires
     same-length-5
+    returns-2
     same-length-6
+    returns-3
+    margin-of-requires
     same-length-7
     same-length-8
     same-length-9
-    returns-2)
+    same-length-10
+    same-length-11
+    returns-4)
