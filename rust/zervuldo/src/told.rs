@@ -78,10 +78,7 @@ fn danger_lines(facts: &Facts, danger: &Unsafe) -> Vec<Line> {
     let plan = &facts.plan;
     let place = plan.quoted(danger.location);
     let mut lines = vec![
-        (
-            "meaning",
-            format!("with any drift, however slight, the ring can enter {place} in the end"),
-        ),
+        ("meaning", danger_words(&danger.perfect, &place)),
         ("states", facts.states.to_string()),
         ("trail", format!("{} steps into {place}", danger.steps)),
         ("perfect clocks", perfect_words(&danger.perfect)),
@@ -95,6 +92,15 @@ fn danger_lines(facts: &Facts, danger: &Unsafe) -> Vec<Line> {
     let example = danger.example.as_ref();
     lines.extend(example.map(|example| ("example", example_words(plan, example))));
     lines
+}
+
+fn danger_words(perfect: &Perfect, place: &str) -> String {
+    match perfect {
+        Perfect::FailsToo { .. } => format!("the ring can enter {place}, drift or no drift"),
+        Perfect::Clean => {
+            format!("with any drift, however slight, the ring can enter {place} in the end")
+        }
+    }
 }
 
 /// Whether perfect clocks do harm too, and how that is known.

@@ -171,9 +171,9 @@ fn a_plan_that_is_unsafe_anyway() {
             "After 1 unit late-2 leads to 'ring-open'. Now panel at 2, east at 2, west at 1. \
              (steps 9-11)",
             "unit 20 ms and crystal 50 ppm among its lines",
-            "some run does harm within 3 jumps, whatever the drift by a trail without drift, which \
-             passed the proved check",
-            "Not proved That perfect clocks can do what this trail does, in as many jumps",
+            "some run does harm within 3 jumps, whatever the drift proved, by a trail without \
+             drift that passed the check",
+            "That perfect clocks do too: a trail without drift passed the check",
         ],
     );
     let words = words(&page);

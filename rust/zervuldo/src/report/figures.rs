@@ -13,7 +13,7 @@ const SEARCHED: &str = "by a search, not proved";
 const ARGUED: &str = "argued in docs/DRIFT.md, not proved";
 const COUNTED: &str = "counted from the plan's own times, not proved";
 const IF_CLEAN: &str = "proved; the fewest jumps only if perfect clocks are clean";
-const BY_TRAIL: &str = "by a trail without drift, which passed the proved check";
+const BY_TRAIL: &str = "proved, by a trail without drift that passed the check";
 const GIVEN: &str = "given with the plan";
 
 /// A label, what is said under it, and how it is known.

@@ -8,7 +8,7 @@ pub fn proved(facts: &Facts) -> Html {
         Finding::Safe(_) => (&SAFE[..], &[][..]),
         Finding::Unsafe(danger) => match danger.perfect {
             Perfect::Clean => (&BY_DRIFT[..], &CLEAN[..]),
-            Perfect::FailsToo { .. } => (&ANYWAY[..], &NOT_CLEAN[..]),
+            Perfect::FailsToo { .. } => (&ANYWAY[..], &[][..]),
         },
     };
     let items = |words: &[&[&str]]| {
@@ -32,24 +32,22 @@ const SAFE: [&str; 3] = [
     "The check that this sheet passed, and that a sheet passes only if the plan is safe.",
 ];
 
-const ANYWAY: [&str; 2] = [
+const BY_DRIFT: [&str; 3] = [
     "The verdict: with every drift above 0, however slight, some run enters a forbidden location.",
+    "The number of jumps within which that happens.",
     "The check that this trail passed, and that a trail passes only if the plan is unsafe.",
 ];
 
-const BY_DRIFT: [&str; 3] = [
-    ANYWAY[0],
-    "The number of jumps within which that happens.",
-    ANYWAY[1],
+const ANYWAY: [&str; 4] = [
+    BY_DRIFT[0],
+    "That perfect clocks do too: a trail without drift passed the check, and where one does, some \
+     run with perfect clocks enters a forbidden location.",
+    BY_DRIFT[1],
+    BY_DRIFT[2],
 ];
 
 const CLEAN: [&str; 1] =
     ["That perfect clocks never enter a forbidden location: a search found no way."];
-
-const NOT_CLEAN: [&str; 1] = [
-    "That perfect clocks can do what this trail does, in as many jumps: it has steps of time and \
-     jumps alone, each of which the proved check has replayed.",
-];
 
 const OPEN: [&str; 5] = [
     "That the plan describes the ring as it is built.",
