@@ -2,8 +2,8 @@
 ghost use mathlib.Core.Path.{_≡_};
 ghost use mathlib.Core.Bool.{cond, _&&_};
 ghost use mathlib.Core.List.{_++_};
-ghost use Prim.Native.Nat.{_≤_, _<_};
-ghost use lib.Dec.{eqb, leb};
+ghost use Prim.Native.Nat.{_%_, _≤_, _<_};
+ghost use lib.Dec.{eqb, leb, ltb};
 ghost use lib.ListN.{length, getD, drop};
 ghost use Rattle.theory.specs.Region.{regions};
 ghost use Rattle.limits.specs.Limits.{maxClocks, maxCeiling, maxRegions};
@@ -33,11 +33,21 @@ fn limit(x: u8, n: u8, ceiling: u8) -> u8
     if x <= n { ceiling } else { 0 }
 }
 
+// Whether an entry has a rank of the last clock, where a plan has fewer. Most entries that are looked at in vain do, and this is seen without unpacking.
+fn is_ranked_past(n: u8, p: u32) -> bool
+    ensures { λ b. ⌜ b ≡ (ltb n maxClocks && ltb 0 (p % 10)) ⌝ }
+{
+    ((n as usize) < MAX_CLOCKS) & (0 < p % 10)
+}
+
 // Whether an entry of the table is a region of n clocks at the ceiling.
 fn selected(n: u8, ceiling: u8, p: u32) -> bool
     requires { ⌜ p < packedBound ⌝ }
     ensures { λ b. ⌜ b ≡ chosen n ceiling p ⌝ }
 {
+    if is_ranked_past(n, p) {
+        return false;
+    }
     Region::unpack(p).fits(ceiling, limit(2, n, ceiling), limit(3, n, ceiling))
 }
 
@@ -46,6 +56,9 @@ fn gap(n: u8, ceiling: u8, p: u32) -> u32
     requires { ⌜ p < packedBound ⌝ }
     ensures { λ q. ⌜ Gap n ceiling p q ⌝ }
 {
+    if is_ranked_past(n, p) {
+        return p + 1;
+    }
     let g = Region::unpack(p);
     if ceiling < g.w1 {
         return region::PACKED_BOUND;
