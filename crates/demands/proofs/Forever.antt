@@ -14,6 +14,7 @@ use Rattle.theory.specs.Below.{bit}
 use Rattle.theory.specs.Marked.{unsafe}
 use Rattle.theory.specs.Automaton.{Automaton, Edge, Run}
 use Rattle.theory.specs.Sheet.{Sheet, sheetTest}
+use Rattle.theory.specs.Replay.{Move}
 use Rattle.theory.proofs.Sheet.{is-sheet}
 use Rattle.theory.proofs.Replay.{passes-law}
 use Rattle.theory.proofs.Rounding.{steady-law}
@@ -34,14 +35,14 @@ use Rattle.graph.proofs.Models.{system-laws}
 use Rattle.robust.specs.Robust.{RobustlySafe, Fragile}
 use Rattle.robust.specs.Margin.{margin, maxMargin}
 use Rattle.robust.specs.Fringe.{sheetMargin, heightMargin}
-use Rattle.robust.specs.Delay.{FragileWithin, trailBase, trailRate}
+use Rattle.robust.specs.Delay.{FragileWithin, moveRate, trailBase, trailRate}
 use Rattle.robust_models.proofs.Models.{safe-forever, sheet-forever, sheet-margin, sheet-height-margin, margin-height, margin-uniform, trail-fragile, trail-within, verdict-right}
 use Rattle.call.specs.Call.{modelOf, statesOf, refusal}
 use Rattle.op_judge.specs.Judge.{judged}
 use Rattle.op_check.specs.Check.{checkAnswer}
 use Rattle.op_margin.specs.Margin.{marginAnswer}
 use Rattle.call.proofs.Calls.{taken-in, accepted}
-use Rattle.demands.specs.Told.{verdictIn, kindAnswer, Perfect, Slip}
+use Rattle.demands.specs.Told.{verdictIn, kindAnswer, Perfect, NoTouch, Slip}
 use Rattle.demands.proofs.Demand2.{answered, one-bit, zero-bit, verdict-is}
 use Rattle.demands.proofs.Demand3.{sheet-exactly, trail-exactly}
 
@@ -69,6 +70,13 @@ spelled-once (v ∷ vs) (w ∷ ws) {bs} s t =
     let (end, f, t′) = spelled-first t in
     let q = sym e ∙ f in
     ap₂ _∷_ (ap valueIn q) (spelled-once vs ws s′ (subst (λ (i : ℕ). SpellsEvidence (drop i bs) ws) (sym (ap endIn q)) t′))
+
+-- without a touch the rate is 0
+no-touch-rate : (a : Automaton) {ms : List Move} → NoTouch ms → trailRate a ms ≡ 0
+unfolding trailRate moveRate
+no-touch-rate a NoTouch.none = refl
+no-touch-rate a (NoTouch.by-flow x rest) = omega (arith, no-touch-rate a rest)
+no-touch-rate a (NoTouch.by-face p rest) = omega (arith, no-touch-rate a rest)
 
 abbrev others : List ℕ → List ℕ
 others [] = []
@@ -209,9 +217,10 @@ module _ (bytes : List ℕ) where
       let (N, some, gs, l, v, t, r, x, few) = F .enters-some 1 (b + 2) (b + 2) (omega arith) (omega arith) in
       true≢false (sym x ∙ drift-only none b 1 (b + 2) N (omega arith) some gs l v t (omega arith) r)
 
-  -- so it is where a trail passes that no touch gives a rate
+  -- so it is where a trail without a touch passes
   pub trail-without-drift : (lent : List ℕ) (taken : refusal bytes lent ≡ 0) (shown : List ℕ) (e : checkAnswer bytes shown lent ≡ kindAnswer 2)
-      → trailRate plan (trail-harms-within bytes lent taken shown e .0 .0) ≡ 0 → Perfect plan → ⊥
-  trail-without-drift lent taken shown e z =
+      → NoTouch (trail-harms-within bytes lent taken shown e .0 .0) → Perfect plan → ⊥
+  trail-without-drift lent taken shown e free =
       let (p, F) = trail-harms-within bytes lent taken shown e in
-      within-without-drift (trailBase plan (p .0)) (subst (λ (r : ℕ). FragileWithin plan (λ q. trailBase plan (p .0) + r * q)) z F)
+      within-without-drift (trailBase plan (p .0))
+      (subst (λ (r : ℕ). FragileWithin plan (λ q. trailBase plan (p .0) + r * q)) (no-touch-rate plan free) F)
