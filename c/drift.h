@@ -49,7 +49,7 @@ enum drift_number {
     DRIFT_BYTES_REMAIN = 6,        /* bytes remain at the end */
     DRIFT_CLOCK_UNRESET = 7,       /* a walk leaves a clock unreset */
     DRIFT_SCRATCH_TOO_SHORT = 8,   /* a scratch slice is shorter than S */
-    DRIFT_OUTPUT_TOO_SHORT = 9,    /* output too short for the marks or evidence */
+    DRIFT_OUTPUT_TOO_SHORT = 9,    /* output too short for the marks, evidence or plan */
     DRIFT_NO_EVIDENCE = 10,        /* evidence begins with neither 1 nor 2 */
     DRIFT_BAD_SHEET_NUMBER = 11,   /* sheet number above 2S-1, or not 0 where not allowed */
     DRIFT_SHEET_RULE_BROKEN = 12,  /* a sheet rule broken */
@@ -116,6 +116,17 @@ uint64_t drift_check_evidence(
     drift_word *s2, size_t s2_length,
     drift_word *s3, size_t s3_length,
     drift_word *s4, size_t s4_length);
+
+/* The shortest form of the plan, from the output's first byte: each number in
+ * as few bytes as it takes, and a stay field of M+1 as 0. It reads as the plan
+ * does, plans of the same content have the same one, and no spelling is
+ * shorter; so an output as long as the model is always enough. The rest of the
+ * output is untouched. It needs no scratch. Refusals 1 to 7, then 9.
+ *
+ * The answer: number + 2^16 * bytes written. See drift_written. */
+uint64_t drift_write_plan(
+    const uint8_t *model, size_t model_length,
+    uint8_t *out, size_t out_length);
 
 /* The number whose first byte stands at an offset, any offset. Refusals 1
  * and 2; a reader then stays where it is. At the end of the bytes it is 1.
@@ -195,7 +206,7 @@ static inline size_t drift_count(uint64_t answer)
     return (size_t)(answer >> 40);
 }
 
-/* Of drift_write_evidence: the number of bytes written. */
+/* Of drift_write_evidence and drift_write_plan: the number of bytes written. */
 static inline size_t drift_written(uint64_t answer)
 {
     return (size_t)(answer >> 16);

@@ -5,6 +5,7 @@ use drift::Evidence;
 use drift::Judgement;
 use drift::Marking;
 use drift::Onset;
+use drift::Stored;
 use drift::Tolerance;
 use drift::Written;
 use libc::STDOUT_FILENO;
@@ -37,6 +38,13 @@ pub fn of_written(found: Written) -> Answer {
         Written::Safe(bytes) => Answer::Two(0, bytes),
         Written::Unsafe(bytes) => Answer::Two(1, bytes),
         Written::Refused(number) => Answer::Refused(number),
+    }
+}
+
+pub fn of_stored(found: Stored) -> Answer {
+    match found {
+        Stored::Bytes(bytes) => Answer::One(bytes),
+        Stored::Refused(number) => Answer::Refused(number),
     }
 }
 

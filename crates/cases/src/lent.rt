@@ -26,7 +26,8 @@ pub struct Lengths {
     pub out: usize,
 }
 
-fn length(line: &[u8], k: usize) -> usize
+// That in a field of the line.
+pub fn length(line: &[u8], k: usize) -> usize
     ensures { λ r. ⌜ r ≤ maxStates ⌝ }
 {
     let n = field(line, k, LENGTH) as usize;
@@ -101,11 +102,11 @@ fn show_bytes(out: &Output, n: usize, commas: bool) {
     }
 }
 
-// The n bytes of the output, where an operation has one: marks together, evidence with commas.
+// The n bytes of the output, where an operation has one: marks together, evidence and plans with commas.
 pub fn show_output(operation: Operation, out: &Output, n: usize) {
     match operation {
         Operation::Marks => show_bytes(out, n, false),
-        Operation::Write => show_bytes(out, n, true),
+        Operation::Write | Operation::Plan => show_bytes(out, n, true),
         _ => {}
     }
 }

@@ -1,6 +1,6 @@
 // Cases of the public operations as data. On standard input a line that begins with '-' announces a plan, whose bytes stand on the next line, set apart
-// by commas as 01 writes them. Each line after it is a case of that plan: `judge`, `marks`, `write`, `sheet_margin` and `harm` with the lengths of what
-// they are lent, `margin`, or else the bytes of a piece of evidence, an empty line too. A line that begins with '#' is a comment. All but the plans'
+// by commas as 01 writes them. Each line after it is a case of that plan: `judge`, `marks`, `write`, `plan`, `sheet_margin` and `harm` with the lengths of
+// what they are lent, `margin`, or else the bytes of a piece of evidence, an empty line too. A line that begins with '#' is a comment. All but the plans'
 // bytes is written back, a case with its answer behind it: 01's number and values; how many numbers of each scratch slice are zero then; and the output.
 mod answers;
 mod lent;
@@ -15,12 +15,14 @@ use answers::of_evidence;
 use answers::of_judgement;
 use answers::of_marking;
 use answers::of_onset;
+use answers::of_stored;
 use answers::of_tolerance;
 use answers::of_written;
 use answers::say;
 use answers::show_answer;
 use lent::Output;
 use lent::Scratch;
+use lent::length;
 use lent::lengths_of;
 use lent::show_output;
 use lent::show_zeros;
@@ -74,6 +76,14 @@ fn call(
     }
 }
 
+// The plan in shortest form, without scratch.
+fn shorten(plan: &[u8], line: &[u8]) {
+    let mut out: Output = [7; MAX_STATES];
+    let n = length(line, 1);
+    show_answer(of_stored(drift::write_plan(plan, &mut out[..n])));
+    show_output(Operation::Plan, &out, n);
+}
+
 // With scratch of the lengths in field k and the next three.
 fn run(operation: Operation, plan: &[u8], line: &[u8], k: usize)
     requires { ⌜ k ≤ 2 ⌝ }
@@ -107,6 +117,7 @@ fn answer(plan: &[u8], line: &[u8]) {
     match operation {
         Operation::Margin => show_answer(of_tolerance(drift::margin(plan))),
         Operation::Check => check(plan, line),
+        Operation::Plan => shorten(plan, line),
         Operation::Judge | Operation::SheetMargin | Operation::Harm => {
             run(operation, plan, line, 1)
         }

@@ -9,6 +9,7 @@ pub enum Operation {
     Margin,
     SheetMargin,
     Harm,
+    Plan,
     Check,
 }
 
@@ -26,6 +27,9 @@ pub fn operation_of(line: &[u8]) -> Operation {
     }
     if first == b'h' {
         return Operation::Harm;
+    }
+    if first == b'p' {
+        return Operation::Plan;
     }
     if first != b'm' {
         return Operation::Check;

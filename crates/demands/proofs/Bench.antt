@@ -16,7 +16,7 @@ use Rattle.theory.specs.Labels.{opens}
 use Rattle.theory.specs.Replay.{movesAlong, ourMoves}
 use Rattle.number.specs.Number.{readNumber, spell, spellAll}
 use Rattle.model.specs.Each.{each}
-use Rattle.model.specs.Parse.{fieldAt, kindAt, invariantAt, endsAt, guardAt, parseBody, parseCounts, parseModel}
+use Rattle.model.specs.Parse.{fieldAt, kindAt, invariantAt, endsAt, guardAt, resolved, parseBody, parseCounts, parseModel}
 use Rattle.model.specs.Cycle.{markEdge, roundOf, survivors, hasCycle, unreset}
 use Rattle.model.specs.Accept.{readModel}
 use Rattle.graph.specs.Plan.{automatonOf}
@@ -34,5 +34,5 @@ use Rattle.op_check.specs.Check.{evidenceAnswer, checkAnswer}
 use Rattle.demands.specs.Bench.{samePoints, holds, bench}
 
 pub bench-holds : every holds bench ≡ true
-unfolding holds bench samePoints same regions lawful fits attains corners hasCorner face shares allowed guardHolds regionCount locationOf regionOf sameRegion indexIn numberOf allowedState stateAt timeFrom jumpFrom stepFrom beside flowTest systemOf labelledOf tab any all least top exact within dist greedy reach onClosedWalk step marks unsafe under chain height keeps number ourSheet trailSteps trailStates opens movesAlong ourMoves readEvidence readNumber spell spellAll each fieldAt kindAt invariantAt endsAt guardAt parseBody parseCounts parseModel markEdge roundOf survivors hasCycle unreset readModel automatonOf numberKeeps numbersFrom sheetRefusal movesNumbers trailNumbers run flowTo labelAt walkStep closedWalk numbersAt faceTo touchTo trailStep trailAnswer ofKind checked ourSheetNumbers ourTrailNumbers ourEvidence answer enough refusal evidenceAnswer checkAnswer
+unfolding holds bench samePoints same regions lawful fits attains corners hasCorner face shares allowed guardHolds regionCount locationOf regionOf sameRegion indexIn numberOf allowedState stateAt timeFrom jumpFrom stepFrom beside flowTest systemOf labelledOf tab any all least top exact within dist greedy reach onClosedWalk step marks unsafe under chain height keeps number ourSheet trailSteps trailStates opens movesAlong ourMoves readEvidence readNumber spell spellAll each fieldAt kindAt invariantAt endsAt guardAt resolved parseBody parseCounts parseModel markEdge roundOf survivors hasCycle unreset readModel automatonOf numberKeeps numbersFrom sheetRefusal movesNumbers trailNumbers run flowTo labelAt walkStep closedWalk numbersAt faceTo touchTo trailStep trailAnswer ofKind checked ourSheetNumbers ourTrailNumbers ourEvidence answer enough refusal evidenceAnswer checkAnswer
 bench-holds = refl

@@ -12,5 +12,8 @@ pub mod Bench
 pub mod Tight
 -- The bench's loop plan, both ways.
 pub mod LoopPlan
--- What the programs take in is enough.
+-- Operations see bytes by their reading; what the programs take in is enough.
+pub mod Alike
 pub mod Input
+-- Request (a) of 02: plans redrawn short.
+pub mod Plans

@@ -4,3 +4,5 @@ pub mod Bench
 pub mod Tight
 -- What the theorems say of answers, marks, plans and slips.
 pub mod Told
+-- Bytes that no operation tells apart.
+pub mod Alike

@@ -11,6 +11,8 @@ pub use op_margin::Tolerance;
 pub use op_margin::margin;
 pub use op_marks::Marking;
 pub use op_marks::marks;
+pub use op_plan::Stored;
+pub use op_plan::write_plan;
 pub use op_sheet_margin::Bound;
 pub use op_sheet_margin::sheet_margin;
 pub use op_write::Written;

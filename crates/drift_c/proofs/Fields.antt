@@ -31,6 +31,10 @@ use Rattle.evidence_writer.proofs.Output.{evidence-most}
 use Rattle.op_write.specs.Write.{writtenAnswer, writeAnswer}
 use Rattle.robust.specs.Margin.{margin}
 use Rattle.robust_models.proofs.Models.{margin-uniform}
+use Rattle.spelling.specs.Calls.{lastRefusal, bytesAnswer}
+use Rattle.canonical.specs.Canonical.{shortestPlan}
+use Rattle.canonical.proofs.Shortest.{plan-most}
+use Rattle.op_plan.specs.Plan.{planAnswer}
 use Rattle.op_margin.specs.Margin.{marginAnswer}
 use Rattle.outlook.proofs.Found.{margin-few}
 use Rattle.op_sheet_margin.specs.SheetMargin.{boundValues, sheetMarginAnswer}
@@ -40,7 +44,7 @@ use Rattle.call.specs.Call.{modelOf, statesOf, refusal}
 use Rattle.op_judge.specs.Judge.{countOf, verdict, judged}
 use Rattle.op_marks.specs.Marks.{marksRefusal, marked}
 use Rattle.theory.proofs.Trail.{steps-verdict}
-use Rattle.drift_c.specs.Words.{value, judgeWord, marksWord, checkWord, writeWord, numberWord, marginWord, harmShort, harmWord, harmOut, SmallValue, maxField, Fields, StatesFit, BytesFit}
+use Rattle.drift_c.specs.Words.{value, judgeWord, countWord, checkWord, writeWord, numberWord, marginWord, harmShort, harmWord, harmOut, SmallValue, maxField, Fields, StatesFit, BytesFit, StoredFit}
 use Rattle.number.specs.declared.Number.the-variants as number
 
 module _ (m : Model) (ok : Lawful m) where
@@ -99,13 +103,13 @@ pub refused-word-is : (r : ℕ) → r ≡ judgeWord (record { number = r; values
 unfolding judgeWord
 refused-word-is r = omega arith
 
-pub marks-word-is : (s : ℕ) → s * 65536 ≡ marksWord (record { number = 0; values = s ∷ [] })
-unfolding marksWord
-marks-word-is s = omega arith
+pub count-word-is : (s : ℕ) → s * 65536 ≡ countWord (record { number = 0; values = s ∷ [] })
+unfolding countWord
+count-word-is s = omega arith
 
-pub marks-refused-is : (r : ℕ) → r ≡ marksWord (record { number = r; values = [] })
-unfolding marksWord
-marks-refused-is r = omega arith
+pub count-refused-is : (r : ℕ) → r ≡ countWord (record { number = r; values = [] })
+unfolding countWord
+count-refused-is r = omega arith
 
 pub kind-word-is : (w k : ℕ) → w ≡ k * 256 → w ≡ checkWord (record { number = 0; values = k ∷ [] })
 unfolding checkWord
@@ -144,6 +148,21 @@ write-room bytes lent room =
     few bad h =
         cond-ind (λ (w : Written). Few (writtenAnswer w)) (ltb room (length (ourEvidence (modelOf bytes)))) (λ _. zero-le)
         (λ _. cond-ind (λ (w : Written). Few (writtenAnswer w)) bad (λ _. h) (λ _. h))
+
+pub plan-room : (bytes : List ℕ) (room : ℕ) → StoredFit (planAnswer bytes room)
+unfolding planAnswer bytesAnswer answer
+plan-room bytes room =
+    let r = readModel bytes in
+    let last = lastRefusal (r .refusal) (length (shortestPlan r)) room in
+    record {
+      few = cond-ind (λ (a : Answer). value a 0 ≤ 2 ^ 40) (eqb last 0)
+          (λ t. omega (arith, plan-most r (accepted-lawful bytes (none-before (r .refusal) _ room (eqb-true last 0 t)))))
+          (λ _. zero-le);
+    }
+  where
+    none-before : (refusal need room : ℕ) → lastRefusal refusal need room ≡ 0 → refusal ≡ 0
+    none-before refusal need room =
+        cond-ind (λ (k : ℕ). k ≡ 0 → refusal ≡ 0) (eqb refusal 0) (λ t _. eqb-true _ _ t) (λ _ z. z)
 
 -- ---- numbers
 

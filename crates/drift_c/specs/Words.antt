@@ -17,9 +17,9 @@ value a i = getD (a .values) i 0
 unfoldable pub judgeWord : Answer → ℕ
 judgeWord a = a .number + 2 ^ 8 * value a 0 + 2 ^ 16 * value a 1 + 2 ^ 40 * value a 2
 
--- number + 2^16 · S
-unfoldable pub marksWord : Answer → ℕ
-marksWord a = a .number + 2 ^ 16 * value a 0
+-- number + 2^16 · a count, of states or of bytes
+unfoldable pub countWord : Answer → ℕ
+countWord a = a .number + 2 ^ 16 * value a 0
 
 -- number + 2^8 · kind (1 sheet, 2 trail)
 unfoldable pub checkWord : Answer → ℕ
@@ -57,6 +57,10 @@ SmallValue (Refused r) = r ≡ r
 -- the number of bytes fits its field
 pub record BytesFit (a : Answer) : Type 0 where
   pub few : value a 1 ≤ 2 ^ 40
+
+-- and so where it is the only value
+pub record StoredFit (a : Answer) : Type 0 where
+  pub few : value a 0 ≤ 2 ^ 40
 
 -- the states and the count have 24 bits each
 abbrev pub maxField : ℕ

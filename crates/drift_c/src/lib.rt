@@ -8,16 +8,19 @@ ghost use Rattle.op_judge.specs.Judge.{judged, judgementAnswer};
 ghost use Rattle.op_marks.specs.Marks.{marked, output, markingAnswer};
 ghost use Rattle.op_check.specs.Check.{checkAnswer, evidenceAnswer};
 ghost use Rattle.op_margin.specs.Margin.{marginAnswer, toleranceAnswer};
+ghost use Rattle.op_plan.specs.Plan.{planAnswer, planOutput};
 ghost use Rattle.op_sheet_margin.specs.SheetMargin.{sheetMarginAnswer, boundAnswer};
 ghost use Rattle.op_harm.specs.Harm.{harmAnswer, onsetAnswer};
 ghost use Rattle.op_write.specs.Write.{writeAnswer, writeOutput, writtenAnswer};
 ghost use Rattle.number.specs.Number.{readNumber};
-ghost use Rattle.drift_c.specs.Words.{judgeWord, marksWord, checkWord, writeWord, numberWord, marginWord, harmWord, harmOut, maxField, Fields, StatesFit, BytesFit, SmallValue};
+ghost use Rattle.spelling.specs.Calls.{storedAnswer};
+ghost use Rattle.drift_c.specs.Words.{judgeWord, countWord, checkWord, writeWord, numberWord, marginWord, harmWord, harmOut, maxField, Fields, StatesFit, BytesFit, StoredFit, SmallValue};
 use drift::Bound;
 use drift::Evidence;
 use drift::Judgement;
 use drift::Marking;
 use drift::Onset;
+use drift::Stored;
 use drift::Tolerance;
 use drift::Written;
 use limits::Word;
@@ -62,7 +65,7 @@ fn judge_word(answer: Judgement) -> u64
 
 fn marks_word(answer: Marking) -> u64
     requires { ⌜ Fields (markingAnswer answer) ⌝ }
-    ensures { λ r. ⌜ r ≡ marksWord (markingAnswer answer) ⌝ }
+    ensures { λ r. ⌜ r ≡ countWord (markingAnswer answer) ⌝ }
 {
     match answer {
         Marking::Marked(states) => states as u64 * AT_STATES,
@@ -88,6 +91,16 @@ fn write_word(answer: Written) -> u64
         Written::Safe(bytes) => bytes as u64 * AT_STATES,
         Written::Unsafe(bytes) => AT_VERDICT + bytes as u64 * AT_STATES,
         Written::Refused(number) => number as u64,
+    }
+}
+
+fn stored_word(answer: Stored) -> u64
+    requires { ⌜ StoredFit (storedAnswer answer) ⌝ }
+    ensures { λ r. ⌜ r ≡ countWord (storedAnswer answer) ⌝ }
+{
+    match answer {
+        Stored::Bytes(bytes) => bytes as u64 * AT_STATES,
+        Stored::Refused(number) => number as u64,
     }
 }
 
@@ -175,7 +188,7 @@ pub extern "C" fn drift_marks(
     out: &mut [u8],
 ) -> u64
     ensures { λ r. ⌜
-        r ≡ marksWord (marked (now (model .entry)) (lengths (now (s1 .entry)) (now (s2 .entry)) (now (s3 .entry)) (now (s4 .entry)))
+        r ≡ countWord (marked (now (model .entry)) (lengths (now (s1 .entry)) (now (s2 .entry)) (now (s3 .entry)) (now (s4 .entry)))
         (length (now (out .entry))))
         ⌝ }
     ensures { λ _. ⌜
@@ -289,6 +302,16 @@ pub extern "C" fn drift_harm(
 {
     let answer = drift::harm(model, s1, s2, s3, s4);
     put_harm(answer, out)
+}
+
+// number + 2^16 · bytes
+#[no_mangle]
+pub extern "C" fn drift_write_plan(model: &[u8], out: &mut [u8]) -> u64
+    ensures { λ r. ⌜ r ≡ countWord (planAnswer (now (model .entry)) (length (now (out .entry)))) ⌝ }
+    ensures { λ _. ⌜ now (out .exit) ≡ planOutput (now (model .entry)) (now (out .entry)) ⌝ }
+{
+    let answer = drift::write_plan(model, out);
+    stored_word(answer)
 }
 
 // number + 2^8 · value + 2^32 · next

@@ -1,8 +1,7 @@
 -- Our evidence passes: its numbers fit three groups, and what they spell keeps the rules or replays.
 use mathlib.Core.Path.{_≡_}
 use mathlib.Core.Bool.{true, false}
-use mathlib.Core.Logic.{_⊎_, inl, inr, ⊎-elim}
-use mathlib.Core.List.{List, [], _∷_, _++_, List·Memᴰ, List·Memᴰ·not-nil, List·Memᴰ·cases-cons, List·Memᴰ·append-cases}
+use mathlib.Core.List.{List, [], _∷_}
 use Prim.Native.Nat.{ℕ, zero, suc, _+_, _%_, _^_, _≤_, _<_}
 use native.Mathlib.Nat.{mod-lt}
 use native.Mathlib.Omega.{arith}
@@ -28,6 +27,7 @@ use Rattle.theory.proofs.Trail.{unsafe-trail, trail-steps-below}
 use Rattle.theory.proofs.StateGraph.{count-positive}
 use Rattle.theory.proofs.Labels.{closed-labels-length}
 use Rattle.theory.proofs.Replay.{our-moves-length, our-moves-pass}
+use Rattle.number.proofs.Sequence.{Fit, fit-none, fit-more, fit-append}
 use Rattle.evidence_number.proofs.Reading.{shortest-spelled}
 use Rattle.model.specs.declared.Model.{Model}
 use Rattle.model.specs.Model.{Lawful}
@@ -39,22 +39,6 @@ use Rattle.evidence.specs.Evidence.{SheetPasses, TrailPasses}
 use Rattle.evidence.specs.Ours.{ourSheetNumbers, ourTrailNumbers, ourEvidence}
 
 -- ---- numbers that fit
-
-abbrev Fit : List ℕ → Type 0
-Fit vs = (v : ℕ) → List·Memᴰ v vs → v < 2 ^ 21
-
-fit-none : Fit []
-fit-none v h = absurd (List·Memᴰ·not-nil h)
-
-fit-more : {x : ℕ} {vs : List ℕ} → x < 2 ^ 21 → Fit vs → Fit (x ∷ vs)
-fit-more {x} {vs} b f v h = by (List·Memᴰ·cases-cons h)
-  where
-    by : (v ≡ x) ⊎ List·Memᴰ v vs → v < 2 ^ 21
-    by (inl e) = omega arith
-    by (inr k) = f v k
-
-fit-append : (vs : List ℕ) {ws : List ℕ} → Fit vs → Fit ws → Fit (vs ++ ws)
-fit-append vs f g v h = ⊎-elim (f v) (g v) (List·Memᴰ·append-cases vs h)
 
 fit-tab : (n : ℕ) (f : ℕ → ℕ) → ((i : ℕ) → i < n → f i < 2 ^ 21) → Fit (tab n f)
 unfolding tab

@@ -2,24 +2,13 @@
 
 use drift::Written;
 use libc::STDIN_FILENO;
-use libc::STDOUT_FILENO;
+use printing::refuse;
+use printing::send;
 
 // The longest plan takes 762 bytes, so any longer input is refused within these, and no other refusal is lost.
 const INPUT: usize = 4096;
 
 const OUTPUT: usize = 65536;
-
-fn refuse(number: u8) {
-    io::write_all(STDOUT_FILENO, b"refused ");
-    io::print_decimal(STDOUT_FILENO, number as u64);
-    io::write_all(STDOUT_FILENO, b"\n");
-}
-
-fn send(out: &[u8], n: usize) {
-    if n <= out.len() {
-        io::write_all(STDOUT_FILENO, &out[..n]);
-    }
-}
 
 fn write(plan: &[u8], out: &mut [u8]) {
     let mut a = [0; 4000];

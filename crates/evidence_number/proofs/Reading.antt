@@ -3,13 +3,13 @@ use Prim.Native.Nat.{ℕ, _+_, _^_, _≤_, _<_}
 use native.Mathlib.Omega.{arith}
 use mathlib.Core.Path.{_≡_, refl, sym, ap, subst, _∙_}
 use mathlib.Core.Logic.{_↔_, inl, inr}
-use mathlib.Core.List.{List, _∷_, _++_, List·Memᴰ}
+use mathlib.Core.List.{List, _∷_, _++_}
 use lib.ListN.{length, take, drop}
 use lib.Seq.{drop-append-seam}
 use Rattle.number.specs.declared.Number.the-variants.{Value, Refused}
 use Rattle.number.specs.Number.{spellAll}
 use Rattle.number.specs.Sequence.{SpelledBy}
-use Rattle.number.proofs.Sequence.{Reading, ReadsBy, plain, read-within, read-small}
+use Rattle.number.proofs.Sequence.{Reading, ReadsBy, Fit, plain, read-within, read-small}
 use Rattle.evidence_number.specs.Evidence.{SpellsOne, SpellsEvidence, readEvidence, NumberRefusal}
 use Rattle.number.proofs.Sequence as sequence
 pub use Rattle.number.proofs.Sequence.{none, more, moved, reads-append, reads-split, reads-first, reads-end}
@@ -72,7 +72,7 @@ module _ (bs : List ℕ) where
   reads-law = sequence.reads-law reading bs
 
 -- "What we write uses shortest numbers"
-pub shortest-spelled : (vs : List ℕ) → ((v : ℕ) → List·Memᴰ v vs → v < 2 ^ 21) → SpellsEvidence (spellAll vs) vs
+pub shortest-spelled : (vs : List ℕ) → Fit vs → SpellsEvidence (spellAll vs) vs
 shortest-spelled = sequence.shortest-spelled reading
 
 -- the first number, and the others from the offset after it on

@@ -1,11 +1,11 @@
 -- What the output holds in the end.
 use Prim.Native.Nat.{ℕ, _≤_, _<_}
 use native.Mathlib.Omega.{arith}
-use mathlib.Core.Path.{_≡_, refl, ap, _∙_}
+use mathlib.Core.Path.{_≡_, refl, ap}
 use mathlib.Core.Bool.{Bool, true, false}
 use mathlib.Core.Logic.{⊎-elim}
-use mathlib.Core.List.{List, [], _∷_, _++_}
-use lib.ListN.{length, drop}
+use mathlib.Core.List.{List, _∷_}
+use lib.ListN.{length}
 use borrow.Author.Tests.{lt-ltb, le-ltb}
 use Rattle.graph.proofs.Plan.{size-states}
 use Rattle.theory.specs.Marked.{unsafe}
@@ -13,21 +13,17 @@ use Rattle.theory.specs.Below.{tab}
 use Rattle.theory.specs.Sheet.{ourSheet, number}
 use Rattle.theory.proofs.Below.{either, tab-length}
 use Rattle.number.specs.Number.{spellAll}
+use Rattle.number.proofs.Spelling.{spell-all-few}
 use Rattle.model.specs.declared.Model.{Model}
 use Rattle.model.specs.Model.{Lawful}
 use Rattle.graph.specs.Plan.{systemOfModel}
 use Rattle.successors.proofs.Room.{states-limit}
 use Rattle.spelling.specs.Lays.{Lays, maxBytes}
-use Rattle.spelling.proofs.Lays.{lays-whole, spell-all-few}
+use Rattle.spelling.proofs.Lays.{fills, fills-not}
 use Rattle.evidence.specs.Ours.{ourSheetNumbers, ourTrailNumbers, ourEvidence}
 use Rattle.evidence_writer.specs.declared.Written.the-variants.{Safe, Unsafe, Refused}
 use Rattle.evidence_writer.specs.Written.{evidenceIn, verdictWith, writtenFor}
 use Rattle.trail_writer.proofs.Moves.{trail-most}
-
--- no part of an output is lent: it stays
-pub none-lent : (xs out : List ℕ) → length xs ≡ 0 → xs ++ out ≡ out
-none-lent [] out e = refl
-none-lent (x ∷ xs) out e = absurd (omega arith)
 
 module _ (m : Model) where
   pub trail-is : unsafe (systemOfModel m) ≡ true → spellAll (ourTrailNumbers m) ≡ ourEvidence m
@@ -44,14 +40,11 @@ module _ (m : Model) where
 
     pub laid-in : {o o₁ o′ : List ℕ} {r : ℕ} → o₁ ≡ o → Lays o₁ o′ 0 r bs → r ≤ length o → o′ ≡ evidenceIn m o
     unfolding evidenceIn
-    laid-in {o} {o₁} f L h =
-        let b : length (ourEvidence m) ≤ length o = omega (arith, measured L) in
-        simp (le-ltb (length o) (length (ourEvidence m)) b)
-        (lays-whole L (omega (arith, ap length f)) ∙ (ap (λ (l : List ℕ). l ++ drop (length l) o₁) e ∙ ap (λ (l : List ℕ). ourEvidence m ++ drop (length (ourEvidence m)) l) f))
+    laid-in = fills (ourEvidence m) e
 
   pub left-out : {o o₁ : List ℕ} {r : ℕ} → o₁ ≡ o → r ≡ length (ourEvidence m) → length o < r → o₁ ≡ evidenceIn m o
   unfolding evidenceIn
-  left-out {o} f e h = simp (lt-ltb (length o) (length (ourEvidence m)) (omega arith)) f
+  left-out = fills-not (ourEvidence m)
 
 -- ---- the answer
 

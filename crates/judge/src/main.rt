@@ -3,38 +3,28 @@
 use drift::Judgement;
 use drift::Written;
 use libc::STDIN_FILENO;
-use libc::STDOUT_FILENO;
+use printing::line;
+use printing::refuse;
+use printing::say;
 
 // The longest plan takes 762 bytes, so any longer input is refused within these, and no other refusal is lost.
 const INPUT: usize = 4096;
 
 const OUTPUT: usize = 65536;
 
-fn say(text: &[u8]) {
-    io::write_all(STDOUT_FILENO, text);
-}
-
-fn line(word: &[u8], number: usize) {
-    say(word);
-    io::print_decimal(STDOUT_FILENO, number as u64);
-    say(b"\n");
-}
-
 fn show(found: Judgement) {
     match found {
         Judgement::Safe(states, count) => {
             say(b"verdict safe\n");
-            line(b"states ", states);
-            line(b"in ", count);
+            line(b"states ", states as u64);
+            line(b"in ", count as u64);
         }
         Judgement::Unsafe(states, count) => {
             say(b"verdict unsafe\n");
-            line(b"states ", states);
-            line(b"steps ", count);
+            line(b"states ", states as u64);
+            line(b"steps ", count as u64);
         }
-        Judgement::Refused(number) => {
-            line(b"refused ", number as usize);
-        }
+        Judgement::Refused(number) => refuse(number),
     }
 }
 
@@ -45,7 +35,7 @@ fn judge(plan: &[u8], out: &mut [u8]) {
     let mut d = [0; 4000];
     let written = drift::write_evidence(plan, &mut a, &mut b, &mut c, &mut d, out);
     if let Written::Refused(number) = written {
-        line(b"refused ", number as usize);
+        refuse(number);
     } else {
         show(drift::judge(plan, &mut a, &mut b, &mut c, &mut d));
     }

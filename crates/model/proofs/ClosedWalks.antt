@@ -16,14 +16,10 @@ use Rattle.model.specs.Each.{each}
 use Rattle.model.specs.Model.{Lawful, sourceOf, targetOf, keeps}
 use Rattle.model.specs.Cycle.{DrawingWalk, here, step, ClosedWalk, LeavesUnreset, markedAt, markEdge, roundOf, survivors, hasCycle, unresetAt, unreset}
 use Rattle.model.proofs.Each.{some-law}
+use Rattle.model.proofs.Arrays.{zeros}
 use Rattle.model.proofs.Pigeonhole.{Mem, Dup, pigeonhole}
 
 -- ---- one round: the sources of the edges that pass and lead to a mark
-
-zeros : (n v : ℕ) → _≡_ {A = ℕ} (getD (replicate n 0) v 0) 0
-zeros zero v = refl
-zeros (suc n) zero = refl
-zeros (suc n) (suc v) = zeros n v
 
 module _ (m : Model) (good : Lawful m) (pass : ℕ → Bool) where
   swept : List ℕ → ℕ → List ℕ

@@ -5,7 +5,7 @@ use mathlib.Core.List.{List, [], _∷_, map}
 use lib.ListN.{take}
 use Rattle.number.specs.Number.{readNumber}
 use Rattle.model.specs.Each.{each}
-use Rattle.model.specs.Parse.{fieldAt, kindAt, invariantAt, endsAt, guardAt, parseBody, parseCounts, parseModel}
+use Rattle.model.specs.Parse.{fieldAt, kindAt, invariantAt, endsAt, guardAt, resolved, parseBody, parseCounts, parseModel}
 use Rattle.model.specs.Cycle.{markEdge, roundOf, survivors, hasCycle, unreset}
 use Rattle.model.specs.Accept.{readModel}
 
@@ -48,5 +48,5 @@ answers :
     (map (λ (bs : List ℕ). readModel bs .refusal) cases ≡ 0 ∷ 0 ∷ 1 ∷ 2 ∷ 0 ∷ 3 ∷ 0 ∷ 4 ∷ 5 ∷ 6 ∷ 7 ∷ [])
     × (take 12 (readModel plan .model .invariant) ≡ 2 ∷ 2 ∷ 0 ∷ 2 ∷ 2 ∷ 0 ∷ 2 ∷ 2 ∷ 0 ∷ 2 ∷ 2 ∷ 0 ∷ [])
     × (take 12 (readModel plan .model .lower) ≡ 1 ∷ 1 ∷ 0 ∷ 0 ∷ 0 ∷ 0 ∷ 0 ∷ 2 ∷ 0 ∷ 0 ∷ 2 ∷ 0 ∷ [])
-unfolding cases plan readModel parseModel parseCounts parseBody each kindAt invariantAt endsAt guardAt fieldAt readNumber unreset hasCycle survivors roundOf markEdge
+unfolding cases plan readModel parseModel parseCounts parseBody each kindAt invariantAt endsAt guardAt resolved fieldAt readNumber unreset hasCycle survivors roundOf markEdge
 answers = (refl, refl, refl)

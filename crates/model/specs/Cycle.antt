@@ -30,8 +30,11 @@ abbrev pub markedAt : List ℕ → ℕ → Bool
 markedAt a i = eqb (getD a i 0) 1
 
 -- an edge that passes marks its source in b where its target is marked in a
+abbrev pub markSource : Bool → ℕ → ℕ → List ℕ → List ℕ → List ℕ
+markSource passes source target a b = cond passes (cond (markedAt a target) (set b source 1) b) b
+
 unfoldable pub markEdge : Model → (ℕ → Bool) → List ℕ → ℕ → List ℕ → List ℕ
-markEdge m pass a e b = cond (pass e) (cond (markedAt a (targetOf m e)) (set b (sourceOf m e) 1) b) b
+markEdge m pass a e b = markSource (pass e) (sourceOf m e) (targetOf m e) a b
 
 unfoldable pub roundOf : Model → (ℕ → Bool) → List ℕ → List ℕ
 roundOf m pass a = each (m .edges) (markEdge m pass a) (replicate maxLocations 0)

@@ -1,6 +1,7 @@
 -- Rounds over the numbers below a bound: what a loop does.
 use Prim.Native.Nat.{ℕ, zero, suc}
 use mathlib.Core.Bool.{Bool, false, _||_}
+use mathlib.Core.List.{List, [], _++_}
 
 -- f 0, then f 1, and so on: n in all
 unfoldable pub each : {A : Type 0} → ℕ → (ℕ → A → A) → A → A
@@ -10,3 +11,8 @@ each (suc n) f s = f n (each n f s)
 -- the test holds somewhere below n
 abbrev pub someBelow : ℕ → (ℕ → Bool) → Bool
 someBelow n t = each n (λ i r. t i || r) false
+
+-- f 0, then f 1, and so on: n lists, one after the other
+unfoldable pub gather : ℕ → (ℕ → List ℕ) → List ℕ
+gather zero f = []
+gather (suc n) f = gather n f ++ f n

@@ -1,6 +1,7 @@
 -- What a model keeps once it is read, and how its flat arrays are looked up. Places that a model does not use hold 0.
 use Prim.Native.Nat.{ℕ, _+_, _*_, _/_, _%_, _≤_, _<_, _^_}
 use mathlib.Core.Path.{_≡_}
+use mathlib.Core.Logic.{_⊎_}
 use mathlib.Core.List.{List}
 use mathlib.Core.Bool.{Bool}
 use lib.ListN.{length, getD}
@@ -17,6 +18,17 @@ sourceOf m e = getD (m .source) e 0
 
 abbrev pub targetOf : Model → ℕ → ℕ
 targetOf m e = getD (m .target) e 0
+
+-- the stay limit of a location for a clock
+abbrev pub limitAt : Model → ℕ → ℕ → ℕ
+limitAt m l x = getD (m .invariant) (slot l x) 0
+
+-- low and high of an edge for a clock
+abbrev pub lowAt : Model → ℕ → ℕ → ℕ
+lowAt m e x = getD (m .lower) (slot e x) 0
+
+abbrev pub highAt : Model → ℕ → ℕ → ℕ
+highAt m e x = getD (m .upper) (slot e x) 0
 
 -- an edge leaves a clock unreset ("reset mask, ... bit i for clock i counted from 0")
 abbrev pub keeps : Model → ℕ → ℕ → Bool
@@ -57,3 +69,22 @@ pub record Lawful (m : Model) : Type 0 where
   pub start : m .start < m .locations
   pub sizes : Sizes m
   pub ranges : Ranges (m .clocks) (m .ceiling) (m .locations) m
+
+-- ---- "Places that a model does not use hold 0"
+
+-- from a place on
+abbrev pub ZeroFrom : ℕ → List ℕ → Type 0
+ZeroFrom k xs = (i : ℕ) → k ≤ i → getD xs i 0 ≡ 0
+
+-- where the location or edge is none of the k, or the clock none of the n
+abbrev pub ZeroOutside : ℕ → ℕ → List ℕ → Type 0
+ZeroOutside k n xs = (i x : ℕ) → x < maxClocks → (k ≤ i) ⊎ (n ≤ x) → getD xs (slot i x) 0 ≡ 0
+
+pub record Tidy (m : Model) : Type 0 where
+  pub kind : ZeroFrom (m .locations) (m .kind)
+  pub invariant : ZeroOutside (m .locations) (m .clocks) (m .invariant)
+  pub source : ZeroFrom (m .edges) (m .source)
+  pub target : ZeroFrom (m .edges) (m .target)
+  pub reset : ZeroFrom (m .edges) (m .reset)
+  pub lower : ZeroOutside (m .edges) (m .clocks) (m .lower)
+  pub upper : ZeroOutside (m .edges) (m .clocks) (m .upper)

@@ -1,39 +1,38 @@
 // Whether a closed walk of edges leaves some clock unreset, by rounds over the locations.
 ghost use mathlib.Core.Path.{_≡_};
 ghost use mathlib.Core.Bool.{_||_};
-ghost use Prim.Native.Nat.{_<_};
-ghost use Rattle.limits.specs.Limits.{maxClocks, maxLocations, maxEdges};
+ghost use Prim.Native.Nat.{_<_, _^_, _/_, _%_};
+ghost use lib.Dec.{eqb};
+ghost use Rattle.limits.specs.Limits.{maxClocks, maxLocations};
 ghost use Rattle.model.specs.Each.{someBelow};
 ghost use Rattle.model.specs.Model.{Lawful, keeps};
-ghost use Rattle.model.specs.Cycle.{markedAt, markEdge, roundOf, survivors, unresetAt, unreset};
+ghost use Rattle.model.specs.Cycle.{markedAt, markSource, roundOf, survivors, unresetAt, unreset};
 use crate::Model;
 use limits::MAX_LOCATIONS;
 
-// An edge does not reset the clock.
-fn keeps_clock(m: Model, x: u8, e: usize) -> bool
-    requires { ⌜ (x < maxClocks) × (e < maxEdges) ⌝ }
-    ensures { λ r. ⌜ r ≡ keeps m x e ⌝ }
+// An edge with this reset mask keeps the clock.
+fn keeps_clock(mask: u8, x: u8) -> bool
+    requires { ⌜ x < maxClocks ⌝ }
+    ensures { λ r. ⌜ r ≡ eqb (mask / 2 ^ x % 2) 0 ⌝ }
 {
-    (m.reset[e] >> x) % 2 == 0
+    (mask >> x) % 2 == 0
 }
 
-fn mark_edge(
-    m: Model,
-    x: u8,
+// Of an edge only its own numbers are handed on: a model would be copied for each edge of each round.
+fn mark_source(
+    passes: bool,
+    source: u8,
+    target: u8,
     a: [u8; MAX_LOCATIONS],
-    e: usize,
     b: [u8; MAX_LOCATIONS],
 ) -> [u8; MAX_LOCATIONS]
-    requires { ⌜ Lawful m ⌝ }
-    requires { ⌜ (x < maxClocks) × (e < maxEdges) ⌝ }
-    ensures { λ r. ⌜ r ≡ markEdge m (keeps m x) a e b ⌝ }
+    requires { ⌜ (source < maxLocations) × (target < maxLocations) ⌝ }
+    ensures { λ r. ⌜ r ≡ markSource passes source target a b ⌝ }
 {
     let mut c = b;
-    if keeps_clock(m, x, e) {
-        let t = m.target[e] as usize;
-        if a[t] == 1 {
-            let s = m.source[e] as usize;
-            c[s] = 1;
+    if passes {
+        if a[target as usize] == 1 {
+            c[source as usize] = 1;
             return c;
         }
         return c;
@@ -50,7 +49,8 @@ fn round(m: Model, x: u8, a: [u8; MAX_LOCATIONS]) -> [u8; MAX_LOCATIONS]
     let count = m.edges as usize;
     let mut b = [0; MAX_LOCATIONS];
     for e in 0..count {
-        let c = mark_edge(m, x, a, e, b);
+        let passes = keeps_clock(m.reset[e], x);
+        let c = mark_source(passes, m.source[e], m.target[e], a, b);
         b = c;
     }
     b

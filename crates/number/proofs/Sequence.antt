@@ -3,8 +3,8 @@
 use Prim.Native.Nat.{ℕ, zero, suc, _+_, _-_, _^_, _≤_, _<_}
 use native.Mathlib.Omega.{arith}
 use mathlib.Core.Path.{_≡_, refl, sym, ap, subst, _∙_}
-use mathlib.Core.Logic.{_↔_, inl, inr, _⊎_}
-use mathlib.Core.List.{List, [], _∷_, _++_, List·Memᴰ, List·Memᴰ·head, List·Memᴰ·tail}
+use mathlib.Core.Logic.{_↔_, inl, inr, _⊎_, ⊎-elim}
+use mathlib.Core.List.{List, [], _∷_, _++_, List·Memᴰ, List·Memᴰ·head, List·Memᴰ·tail, List·Memᴰ·not-nil, List·Memᴰ·cases-cons, List·Memᴰ·append-cases}
 use lib.ListN.{length, take, drop, length-drop, length-append, drop-of-length-le}
 use lib.Seq.{drop-drop, drop-append-seam, take-append-add, getD-drop}
 use Rattle.number.specs.declared.Number.{Number}
@@ -12,7 +12,24 @@ use Rattle.number.specs.declared.Number.the-variants.{Value, Refused}
 use Rattle.number.specs.Number.{Spells, readNumber, spell, spellAll}
 use Rattle.number.specs.Sequence.{SpelledBy, SpellsAll}
 use Rattle.number.proofs.Laws.{Sound, sound, read-value, read-short, read-long, spells-some, spells-bound}
-use Rattle.number.proofs.Spelling.{spell-spells}
+use Rattle.number.proofs.Spelling.{spell-spells, spell-shortest}
+
+-- numbers that fit three groups, list by list
+abbrev pub Fit : List ℕ → Type 0
+Fit vs = (v : ℕ) → List·Memᴰ v vs → v < 2 ^ 21
+
+pub fit-none : Fit []
+fit-none v h = absurd (List·Memᴰ·not-nil h)
+
+pub fit-more : {x : ℕ} {vs : List ℕ} → x < 2 ^ 21 → Fit vs → Fit (x ∷ vs)
+fit-more {x} {vs} b f v h = by (List·Memᴰ·cases-cons h)
+  where
+    by : (v ≡ x) ⊎ List·Memᴰ v vs → v < 2 ^ 21
+    by (inl e) = omega arith
+    by (inr k) = f v k
+
+pub fit-append : (vs : List ℕ) {ws : List ℕ} → Fit vs → Fit ws → Fit (vs ++ ws)
+fit-append vs f g v h = ⊎-elim (f v) (g v) (List·Memᴰ·append-cases vs h)
 
 -- the same from an offset on, which is taken off the offsets
 abbrev pub moved : ℕ → Number → Number
@@ -129,7 +146,7 @@ module _ {read : List ℕ → ℕ → Number} {R : List ℕ → ℕ → Type 0} 
     )
 
   -- shortest forms spell their numbers
-  pub shortest-spelled : (vs : List ℕ) → ((v : ℕ) → List·Memᴰ v vs → v < 2 ^ 21) → SpelledBy R (spellAll vs) vs
+  pub shortest-spelled : (vs : List ℕ) → Fit vs → SpelledBy R (spellAll vs) vs
   unfolding spellAll
   shortest-spelled [] h = SpelledBy.none
   shortest-spelled (v ∷ vs) h = SpelledBy.more (L .shortest v (h v (List·Memᴰ·head refl))) (shortest-spelled vs (λ w k. h w (List·Memᴰ·tail k)))
@@ -182,5 +199,12 @@ value-within = read-within plain
 pub spell-reads : (bs : List ℕ) {l vs : List ℕ} → SpellsAll l vs → (at : ℕ) → drop at bs ≡ l → (end : ℕ) × Reads bs at vs end × (length bs ≤ end)
 spell-reads bs = spelled-reads plain bs
 
-pub spelled : (vs : List ℕ) → ((v : ℕ) → List·Memᴰ v vs → v < 2 ^ 21) → SpellsAll (spellAll vs) vs
+pub spelled : (vs : List ℕ) → Fit vs → SpellsAll (spellAll vs) vs
 spelled = shortest-spelled plain
+
+-- no bytes that spell them are fewer
+pub spelled-shortest : {bs vs : List ℕ} → SpellsAll bs vs → length (spellAll vs) ≤ length bs
+unfolding spellAll
+spelled-shortest SpelledBy.none = omega arith
+spelled-shortest (SpelledBy.more {g = g} {bs = bs} {vs = vs} {v = v} k s) =
+    omega (arith, length-append (spell v) (spellAll vs), length-append g bs, spell-shortest k, spelled-shortest s)

@@ -1,7 +1,7 @@
 -- The shortest form of a number: it spells the number, no other form is shorter, and it reads back.
-use Prim.Native.Nat.{ℕ, _+_, _/_, _%_, _^_, _<_, _≤_}
+use Prim.Native.Nat.{ℕ, _+_, _*_, _/_, _%_, _^_, _<_, _≤_}
 use native.Mathlib.Omega.{arith}
-use mathlib.Core.Path.{_≡_, refl, subst}
+use mathlib.Core.Path.{_≡_, refl, sym, ap, subst, _∙_}
 use mathlib.Core.List.{List, [], _∷_, _++_, append-assoc}
 use lib.ListN.{length, length-append}
 use lib.Seq.{drop-append-seam}
@@ -48,6 +48,28 @@ spell-shortest =
     (λ a h. rw (spell-1 a h) (omega arith))
     (λ a b h k. spell-ind (λ (l : List ℕ). length l ≤ 2) _ (λ p. omega arith) (λ p q. omega arith) (λ q. absurd (omega arith)))
     (λ a b c h k m. spell-ind (λ (l : List ℕ). length l ≤ 3) _ (λ p. omega arith) (λ p q. omega arith) (λ q. omega arith))
+
+pub spell-few : (v : ℕ) → length (spell v) ≤ 3
+spell-few v = spell-ind (λ (l : List ℕ). length l ≤ 3) v (λ _. omega arith) (λ _ _. omega arith) (λ _. omega arith)
+
+pub spell-all-few : (vs : List ℕ) → length (spellAll vs) ≤ 3 * length vs
+unfolding spellAll
+spell-all-few [] = omega arith
+spell-all-few (v ∷ vs) = omega (arith, length-append (spell v) (spellAll vs), spell-few v, spell-all-few vs)
+
+-- a smaller number has no longer form
+pub spell-grows : (v w : ℕ) → v ≤ w → length (spell v) ≤ length (spell w)
+spell-grows v w h =
+    spell-ind (λ (l : List ℕ). length (spell v) ≤ length l) w
+    (λ p. rw (spell-1 v (omega arith)) (omega arith))
+    (λ p q. spell-ind (λ (l : List ℕ). length l ≤ 2) v (λ _. omega arith) (λ _ _. omega arith) (λ k. absurd (omega arith)))
+    (λ q. spell-few v)
+
+-- one after the other
+pub spell-append : (vs ws : List ℕ) → spellAll (vs ++ ws) ≡ spellAll vs ++ spellAll ws
+unfolding spellAll
+spell-append [] ws = refl
+spell-append (v ∷ vs) ws = ap (λ (l : List ℕ). spell v ++ l) (spell-append vs ws) ∙ sym (append-assoc (spell v) (spellAll vs) (spellAll ws))
 
 -- a shortest form reads back, wherever it stands
 pub reads-back : (pre rest : List ℕ) (v : ℕ) → v < 2 ^ 21

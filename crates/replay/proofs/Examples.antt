@@ -13,7 +13,7 @@ use Rattle.number.specs.Number.{readNumber}
 use Rattle.evidence_number.specs.Evidence.{readEvidence}
 use Rattle.trail_numbers.specs.Numbers.{labelAt, numbersAt}
 use Rattle.model.specs.Each.{each}
-use Rattle.model.specs.Parse.{fieldAt, kindAt, invariantAt, endsAt, guardAt, parseBody, parseCounts, parseModel}
+use Rattle.model.specs.Parse.{fieldAt, kindAt, invariantAt, endsAt, guardAt, resolved, parseBody, parseCounts, parseModel}
 use Rattle.graph.specs.Plan.{automatonOf}
 use Rattle.replay.specs.Trail.{run, flowTo, walkStep, closedWalk, faceTo, touchTo, trailStep, trailAnswer}
 
@@ -75,5 +75,5 @@ bench :
     (answers (line 1) ((2 ∷ 0 ∷ []) ∷ []) ≡ 0 ∷ [])
     × (answers (line 0) ((2 ∷ 0 ∷ []) ∷ (2 ∷ 1 ∷ 3 ∷ 1 ∷ 0 ∷ []) ∷ []) ≡ 14 ∷ 13 ∷ [])
     × (answers loop cases ≡ 0 ∷ 1 ∷ 14 ∷ 6 ∷ 2 ∷ 13 ∷ 13 ∷ 13 ∷ 13 ∷ 13 ∷ 14 ∷ 13 ∷ 1 ∷ 13 ∷ 13 ∷ 13 ∷ 1 ∷ 13 ∷ [])
-unfolding line loop trail cases trailAnswer trailStep run flowTo labelAt walkStep closedWalk numbersAt faceTo touchTo readEvidence readNumber parseModel parseCounts parseBody each kindAt invariantAt endsAt guardAt fieldAt automatonOf tab systemOf labelledOf opens stepFrom timeFrom jumpFrom stateAt beside allowedState numberOf indexIn sameRegion regionOf locationOf regionCount regions allowed guardHolds lawful fits attains face shares corners hasCorner same
+unfolding line loop trail cases trailAnswer trailStep run flowTo labelAt walkStep closedWalk numbersAt faceTo touchTo readEvidence readNumber parseModel parseCounts parseBody each kindAt invariantAt endsAt guardAt resolved fieldAt automatonOf tab systemOf labelledOf opens stepFrom timeFrom jumpFrom stateAt beside allowedState numberOf indexIn sameRegion regionOf locationOf regionCount regions allowed guardHolds lawful fits attains face shares corners hasCorner same
 bench = (refl, refl, refl)

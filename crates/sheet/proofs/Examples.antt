@@ -11,7 +11,7 @@ use Rattle.theory.specs.Sheet.{keeps}
 use Rattle.number.specs.Number.{readNumber}
 use Rattle.evidence_number.specs.Evidence.{readEvidence}
 use Rattle.model.specs.Each.{each}
-use Rattle.model.specs.Parse.{fieldAt, kindAt, invariantAt, endsAt, guardAt, parseBody, parseCounts, parseModel}
+use Rattle.model.specs.Parse.{fieldAt, kindAt, invariantAt, endsAt, guardAt, resolved, parseBody, parseCounts, parseModel}
 use Rattle.model.specs.Cycle.{markEdge, roundOf, survivors, hasCycle, unreset}
 use Rattle.model.specs.Accept.{readModel}
 use Rattle.graph.specs.Plan.{automatonOf}
@@ -60,5 +60,5 @@ cases :
     ∷ (1 ∷ 7 ∷ 5 ∷ 3 ∷ 0 ∷ 0 ∷ 1 ∷ [])
     ∷ (1 ∷ 7 ∷ 5 ∷ 3 ∷ 4 ∷ 3 ∷ 1 ∷ []) ∷ [])
     ≡ 0 ∷ 0 ∷ 12 ∷ 12 ∷ [])
-unfolding sheetRefusal numbersFrom numberKeeps readEvidence readNumber keeps all any tab same systemOf automatonOf flowTest beside stepFrom timeFrom jumpFrom stateAt numberOf indexIn sameRegion allowedState locationOf regionOf regionCount allowed guardHolds regions lawful fits attains face shares hasCorner corners readModel parseModel parseCounts parseBody each kindAt invariantAt endsAt guardAt fieldAt unreset hasCycle survivors roundOf markEdge
+unfolding sheetRefusal numbersFrom numberKeeps readEvidence readNumber keeps all any tab same systemOf automatonOf flowTest beside stepFrom timeFrom jumpFrom stateAt numberOf indexIn sameRegion allowedState locationOf regionOf regionCount allowed guardHolds regions lawful fits attains face shares hasCorner corners readModel parseModel parseCounts parseBody each kindAt invariantAt endsAt guardAt resolved fieldAt unreset hasCycle survivors roundOf markEdge
 cases = (refl, refl, refl, refl)

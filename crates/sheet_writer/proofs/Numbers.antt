@@ -15,6 +15,7 @@ use Rattle.theory.proofs.Levels.{mark-marks}
 use Rattle.theory.proofs.Height.{height-below}
 use Rattle.limits.specs.Limits.{maxStates}
 use Rattle.number.specs.Number.{spell, spellAll}
+use Rattle.number.proofs.Spelling.{spell-append, spell-few, spell-all-few}
 use Rattle.model.specs.declared.Model.{Model}
 use Rattle.model.specs.Model.{Lawful}
 use Rattle.graph.specs.Plan.{systemOfModel}
@@ -23,7 +24,7 @@ use Rattle.graph.proofs.Models.{system-laws}
 use Rattle.successors.proofs.Room.{states-limit}
 use Rattle.survey.specs.Surveyed.{Surveyed}
 use Rattle.spelling.specs.Lays.{Lays, maxBytes}
-use Rattle.spelling.proofs.Lays.{lays-then, lays-as, spell-append, spell-few, spell-all-few}
+use Rattle.spelling.proofs.Lays.{lays-then, lays-as}
 
 -- a state's number, by what is known of it
 abbrev pub found : List ℕ → List ℕ → ℕ → ℕ

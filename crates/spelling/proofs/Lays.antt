@@ -1,15 +1,13 @@
--- What is laid, part by part; how long the shortest forms are.
-use mathlib.Core.Path.{_≡_, refl, sym, ap, _∙_}
-use mathlib.Core.List.{List, [], _∷_, _++_, append-assoc}
-use Prim.Native.Nat.{ℕ, suc, _+_, _*_, _≤_, _<_}
+-- What is laid, part by part, and the output in the end.
+use mathlib.Core.Path.{_≡_, refl, ap, _∙_}
+use mathlib.Core.List.{List, [], _∷_, _++_}
+use Prim.Native.Nat.{ℕ, suc, _+_, _≤_, _<_}
 use native.Mathlib.Nat.{add-zero, zero-add}
 use native.Mathlib.Omega.{arith}
 use lib.ListN.{length, length-append, set, length-set, drop}
 use lib.Seq.{sets, sets-eq}
-use lib.Dec.{ltb}
-use Rattle.number.specs.Number.{spell, spellAll}
-use Rattle.number.proofs.Laws.{cond-ind}
-use Rattle.spelling.specs.Lays.{Lays}
+use borrow.Author.Tests.{lt-ltb, le-ltb}
+use Rattle.spelling.specs.Lays.{Lays, filled}
 
 sets-append : (vs ws l : List ℕ) (i : ℕ) → sets (sets l i vs) (i + length vs) ws ≡ sets l i (vs ++ ws)
 sets-append [] ws l i = ap (λ (k : ℕ). sets l k ws) (add-zero i)
@@ -41,7 +39,7 @@ lays-then {o} {o₁} {bs = bs} {cs = cs} {at = at} {r = r} {s = s} a b = record 
 }
 
 -- from the first byte on the rest is untouched
-pub lays-whole : {o o′ bs : List ℕ} {r : ℕ} → Lays o o′ 0 r bs → r ≤ length o → o′ ≡ bs ++ drop (length bs) o
+lays-whole : {o o′ bs : List ℕ} {r : ℕ} → Lays o o′ 0 r bs → r ≤ length o → o′ ≡ bs ++ drop (length bs) o
 lays-whole {o} {bs = bs} a h =
     a .laid h ∙ (sets-eq bs o 0 (omega (arith, a .end)) ∙ ap (λ (k : ℕ). bs ++ drop k o) (zero-add (length bs)))
 
@@ -49,20 +47,18 @@ lays-whole {o} {bs = bs} a h =
 pub lays-as : {o o′ bs cs : List ℕ} {at r : ℕ} → Lays o o′ at r bs → bs ≡ cs → Lays o o′ at r cs
 lays-as {o} {o′} {at = at} {r = r} a e = rw e at a
 
--- ---- the shortest forms
+-- ---- the output in the end
 
-pub spell-few : (v : ℕ) → length (spell v) ≤ 3
-unfolding spell
-spell-few v =
-    cond-ind (λ (g : List ℕ). length g ≤ 3) (ltb v 128) (λ _. omega arith)
-    (λ _. cond-ind (λ (g : List ℕ). length g ≤ 3) (ltb v 16384) (λ _. omega arith) (λ _. omega arith))
+-- no part of an output is lent: it stays
+pub none-lent : (xs out : List ℕ) → length xs ≡ 0 → xs ++ out ≡ out
+none-lent [] out e = refl
+none-lent (x ∷ xs) out e = absurd (omega arith)
 
-pub spell-all-few : (vs : List ℕ) → length (spellAll vs) ≤ 3 * length vs
-unfolding spellAll
-spell-all-few [] = omega arith
-spell-all-few (v ∷ vs) = omega (arith, length-append (spell v) (spellAll vs), spell-few v, spell-all-few vs)
+module _ (bs : List ℕ) where
+  pub fills : {o o₁ o′ cs : List ℕ} {r : ℕ} → cs ≡ bs → o₁ ≡ o → Lays o₁ o′ 0 r cs → r ≤ length o → o′ ≡ filled bs o
+  fills {o} {o₁} e f L h =
+      simp (le-ltb (length o) (length bs) (omega (arith, L .end, ap length e)))
+      (lays-whole L (omega (arith, ap length f)) ∙ (ap (λ (l : List ℕ). l ++ drop (length l) o₁) e ∙ ap (λ (l : List ℕ). bs ++ drop (length bs) l) f))
 
-pub spell-append : (vs ws : List ℕ) → spellAll (vs ++ ws) ≡ spellAll vs ++ spellAll ws
-unfolding spellAll
-spell-append [] ws = refl
-spell-append (v ∷ vs) ws = ap (λ (l : List ℕ). spell v ++ l) (spell-append vs ws) ∙ sym (append-assoc (spell v) (spellAll vs) (spellAll ws))
+  pub fills-not : {o o₁ : List ℕ} {r : ℕ} → o₁ ≡ o → r ≡ length bs → length o < r → o₁ ≡ filled bs o
+  fills-not {o} f e h = simp (lt-ltb (length o) (length bs) (omega arith)) f

@@ -6,6 +6,12 @@ ghost use lib.ListN.{length};
 ghost use Rattle.number.specs.Number.{spell};
 ghost use Rattle.spelling.specs.Lays.{Lays, maxBytes};
 
+// How a call ends that writes bytes: how many they are, or the refusal.
+pub enum Stored {
+    Bytes(usize),
+    Refused(u8),
+}
+
 // The number at an offset; the offset after it.
 pub fn put(out: &mut [u8], at: usize, v: u32) -> usize
     requires { ⌜ (v < 2 ^ 21) × (at + length (spell v) ≤ maxBytes) ⌝ }

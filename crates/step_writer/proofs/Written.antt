@@ -10,13 +10,14 @@ use Rattle.theory.specs.Region.{Clock}
 use Rattle.theory.specs.Enumeration.{key}
 use Rattle.theory.specs.Labels.{LabelledSystem, leastLabel, labelsAlong}
 use Rattle.number.specs.Number.{spell, spellAll}
+use Rattle.number.proofs.Spelling.{spell-append}
 use Rattle.region.specs.declared.Region.{Region}
 use Rattle.region.specs.Limits.{Clocks}
 use Rattle.region.specs.View.{view}
 use Rattle.region.proofs.Views.{three as clock-cases}
 use Rattle.replay.specs.Spelling.{labelNumbers, walkNumbers}
 use Rattle.spelling.specs.Lays.{Lays}
-use Rattle.spelling.proofs.Lays.{lays-none, lays-then, lays-as, spell-append}
+use Rattle.spelling.proofs.Lays.{lays-none, lays-then, lays-as}
 
 -- ---- a label
 

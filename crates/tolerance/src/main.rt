@@ -3,16 +3,11 @@
 
 use drift::Tolerance;
 use libc::STDIN_FILENO;
-use libc::STDOUT_FILENO;
+use printing::line;
+use printing::refuse;
 
 // The longest plan takes 762 bytes, so any longer input is refused within these, and no other refusal is lost.
 const INPUT: usize = 4096;
-
-fn line(word: &[u8], number: u64) {
-    io::write_all(STDOUT_FILENO, word);
-    io::print_decimal(STDOUT_FILENO, number);
-    io::write_all(STDOUT_FILENO, b"\n");
-}
 
 fn show(found: Tolerance) {
     match found {
@@ -20,9 +15,7 @@ fn show(found: Tolerance) {
             line(b"states ", states as u64);
             line(b"margin ", margin as u64);
         }
-        Tolerance::Refused(number) => {
-            line(b"refused ", number as u64);
-        }
+        Tolerance::Refused(number) => refuse(number),
     }
 }
 

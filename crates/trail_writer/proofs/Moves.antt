@@ -31,6 +31,7 @@ use Rattle.theory.proofs.ClosedWalk.{closed-walk-below, closed-walk-walk, close
 use Rattle.theory.proofs.Trail.{unsafe-trail, trail-passes, trail-length, trail-steps-below}
 use Rattle.theory.proofs.Labels.{flow-label, closed-labels-length}
 use Rattle.number.specs.Number.{spell, spellAll}
+use Rattle.number.proofs.Spelling.{spell-append, spell-all-few}
 use Rattle.model.specs.declared.Model.{Model}
 use Rattle.model.specs.Model.{Lawful}
 use Rattle.graph.specs.Plan.{automatonOf, systemOfModel, labelledOfModel}
@@ -38,7 +39,7 @@ use Rattle.graph.specs.States.{states}
 use Rattle.graph.proofs.Models.{system-laws, labelled-laws}
 use Rattle.successors.proofs.Room.{states-limit}
 use Rattle.spelling.specs.Lays.{Lays, maxMoveNumbers, maxBytes}
-use Rattle.spelling.proofs.Lays.{lays-none, lays-then, lays-as, spell-append, spell-all-few}
+use Rattle.spelling.proofs.Lays.{lays-none, lays-then, lays-as}
 use Rattle.replay.specs.Spelling.{labelNumbers, walkNumbers, moveNumbers, movesNumbers, trailNumbers}
 use Rattle.evidence.specs.Ours.{ourTrailNumbers}
 use Rattle.closed_walk.specs.Closes.{Closes}

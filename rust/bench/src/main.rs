@@ -104,6 +104,7 @@ fn main() {
     let means = SIZES.map(|size| classes(size).map(|class| line(size, class)));
     print_ratios(&means);
     print_growth(&means);
+    print_plans();
     if let Some(folder) = std::env::args().nth(1) {
         draw(Path::new(&folder), &means);
     }
@@ -171,6 +172,27 @@ fn print_growth(means: &[[Means; 2]; SIZES.len()]) {
             })
             .collect();
         println!("{:>7}{columns}", states_of(*size));
+    }
+}
+
+/// Plans in shortest form: a call without states, so by the bytes of a plan.
+fn print_plans() {
+    println!();
+    println!("plans in shortest form: microseconds by the bytes of a plan");
+    println!(
+        "{:>7} {:>9} {:>9} {:>6}",
+        "bytes", "ours", "second", "ratio"
+    );
+    for (clocks, ceiling, locations) in SIZES {
+        let model = generate_sized(0, clocks, ceiling.into(), locations, Class::Safe);
+        let [mut ours, mut theirs] = [(); 2].map(|()| vec![0; model.len()]);
+        let [ours, theirs] = both(
+            || drift::write_plan(&model, &mut ours),
+            || second::write_plan(&model, &mut theirs),
+        )
+        .map(|time| time.as_secs_f64() * 1e6);
+        let (bytes, ratio) = (model.len(), ours / theirs);
+        println!("{bytes:>7} {ours:>9.2} {theirs:>9.2} {ratio:>6.2}");
     }
 }
 

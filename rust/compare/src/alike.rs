@@ -130,6 +130,27 @@ pub fn write_alike(
     }))
 }
 
+/// The shortest form of a plan, or the refusal.
+pub fn plan_alike(
+    model: &[u8],
+    room: usize,
+    random: &mut Random,
+) -> Result<Result<Vec<u8>, u8>, String> {
+    let mut wanted_output = Output::new(random, room);
+    let mut got_output = wanted_output.clone();
+    let copy = model.to_vec();
+    let wanted = second::write_plan(model, wanted_output.lent());
+    let got = drift::write_plan(&copy, got_output.lent()).map_err(drift::Refusal::number);
+    let bytes = same(wanted, got)?;
+    if wanted_output != got_output {
+        return Err("outputs differ".into());
+    }
+    if model != copy {
+        return Err("the model was changed".into());
+    }
+    Ok(bytes.map(|bytes| got_output.lent()[..bytes].to_vec()))
+}
+
 /// All numbers that bytes spell, up to a refusal, at which both readers stay.
 pub fn numbers_alike(bytes: &[u8]) -> Result<(), String> {
     let mut numbers = drift::Numbers::new(bytes);

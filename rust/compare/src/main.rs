@@ -8,6 +8,7 @@
 mod alike;
 mod memory;
 mod pieces;
+mod plans;
 mod rows;
 mod tally;
 
@@ -15,6 +16,7 @@ use alike::{check_alike, marks_alike, numbers_alike, write_alike};
 use alike::{harm_alike, judge_alike, sheet_margin_alike};
 use memory::{length_near, rooms, Lent};
 use pieces::{pieces, Others};
+use plans::plans_alike;
 use rows::long;
 use second::generate::{generate, KINDS};
 use second::random::Random;
@@ -101,6 +103,7 @@ fn agree(
         .map(|model| second::calls::states_of(&model))
         .unwrap_or(20);
     answered(model, random, states, tally).map_err(about_model)?;
+    plans_alike(model, random, tally).map_err(|what| about_model(format!("plan: {what}")))?;
     let lent = Lent::near(random, states);
     let room = length_near(random, states);
     marks_alike(model, &lent, room, random).map_err(about_model)?;

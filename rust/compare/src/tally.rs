@@ -33,6 +33,32 @@ impl fmt::Display for Written {
     }
 }
 
+/// Plans put in shortest form, and how many bytes fewer that took.
+#[derive(Default)]
+struct Plans {
+    count: u64,
+    /// With fewer bytes than they had.
+    shorter: u64,
+    /// With as many, but other bytes.
+    other: u64,
+    saved: usize,
+    refused: [u64; OUTPUT_TOO_SHORT as usize + 1],
+}
+
+impl fmt::Display for Plans {
+    fn fmt(&self, f: &mut fmt::Formatter) -> fmt::Result {
+        write!(
+            f,
+            "{}, {} of them shorter by {} bytes in all, {} changed alone, refused 1 to 9 {:?}",
+            self.count,
+            self.shorter,
+            self.saved,
+            self.other,
+            &self.refused[1..]
+        )
+    }
+}
+
 /// The margins told, and the greatest.
 #[derive(Default)]
 struct Margins {
@@ -54,6 +80,7 @@ pub struct Tally {
     judged: [u64; 2],
     /// Models by the refusal.
     unjudged: [u64; SCRATCH_TOO_SHORT as usize + 1],
+    plans: Plans,
     margins: Margins,
     harms: Harms,
     /// Sheets and trails written.
@@ -73,6 +100,19 @@ impl Tally {
         match answer {
             Ok(judgement) => self.judged[usize::from(judgement.is_unsafe)] += 1,
             Err(refusal) => self.unjudged[usize::from(*refusal)] += 1,
+        }
+    }
+
+    pub fn shortened(&mut self, model: &[u8], answer: &Result<Vec<u8>, u8>) {
+        let plans = &mut self.plans;
+        match answer {
+            Ok(bytes) => {
+                plans.count += 1;
+                plans.shorter += u64::from(bytes.len() < model.len());
+                plans.other += u64::from(bytes.len() == model.len() && bytes != model);
+                plans.saved += model.len() - bytes.len();
+            }
+            Err(refusal) => plans.refused[usize::from(*refusal)] += 1,
         }
     }
 
@@ -124,6 +164,7 @@ impl fmt::Display for Tally {
             f,
             "models: safe {safe}, unsafe {is_unsafe}, refused 1 to 8 {refused:?}"
         )?;
+        writeln!(f, "plans in shortest form: {}", self.plans)?;
         let Margins { count, greatest } = &self.margins;
         writeln!(f, "margins: {count}, greatest {greatest}")?;
         let Harms { count, base, rate } = &self.harms;

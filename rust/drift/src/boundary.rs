@@ -52,6 +52,7 @@ foreign! {
     fn drift_marks(read model, scratch [a, b, c, d], write out: u8) -> u64;
     fn drift_check_evidence(read model, read evidence, scratch [a, b, c, d]) -> u64;
     fn drift_write_evidence(read model, scratch [a, b, c, d], write out: u8) -> u64;
+    fn drift_write_plan(read model, write out: u8) -> u64;
     fn drift_next_number(read bytes, number at) -> u64;
     fn drift_margin(read model) -> u64;
     fn drift_sheet_margin(read model, scratch [a, b, c, d]) -> u64;
@@ -72,7 +73,7 @@ pub const STATES: Range<u32> = 16..40;
 pub const COUNT: Range<u32> = 40..64;
 /// A: every drift below 1/A of a unit is harmless.
 pub const MARGIN: Range<u32> = 40..64;
-/// The bytes of evidence written.
+/// The bytes written, of evidence or of a plan.
 pub const WRITTEN: Range<u32> = 16..64;
 /// The number that was read.
 pub const VALUE: Range<u32> = 8..32;
@@ -97,6 +98,10 @@ pub fn verdict_of(answer: u64) -> Verdict {
         0 => Verdict::Safe,
         _ => Verdict::Unsafe,
     }
+}
+
+pub fn written_of(answer: u64) -> usize {
+    field(answer, WRITTEN) as usize
 }
 
 pub fn states_of(answer: u64) -> usize {

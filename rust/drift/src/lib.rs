@@ -133,8 +133,15 @@ pub fn write_evidence(model: &[u8], scratch: Scratch, out: &mut [u8]) -> Result<
     let answer = accepted(drift_write_evidence(model, scratch, out))?;
     Ok(Written {
         verdict: verdict_of(answer),
-        bytes: field(answer, WRITTEN) as usize,
+        bytes: written_of(answer),
     })
+}
+
+/// The shortest form of a plan, at the front of the output, and how many bytes
+/// it takes; the rest of the output stays as it is, and all of it on a refusal.
+/// No scratch is needed, and an output as long as the plan is always enough.
+pub fn write_plan(model: &[u8], out: &mut [u8]) -> Result<usize, Refusal> {
+    accepted(drift_write_plan(model, out)).map(written_of)
 }
 
 /// The number of states of a plan and its margin by the drawing alone; no

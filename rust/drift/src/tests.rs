@@ -198,3 +198,21 @@ fn jumps_before_harm() {
     assert_eq!(within(&LOOP), Ok(in_turns));
     assert_eq!(within(&UNRESET), Err(ClockUnreset));
 }
+
+/// The shortest form of a plan with padding and a stay field of M+1, into
+/// outputs that are too short, just long enough and longer.
+#[test]
+fn plans_redrawn_short() {
+    let padded = [129, 128, 0, 1, 1, 129, 0, 0, 0, 0, 2];
+    for room in 0..ROW.len() {
+        let mut out = vec![DIRT; room];
+        assert_eq!(write_plan(&padded, &mut out), Err(OutputTooShort));
+        assert_eq!(out, vec![DIRT; room]);
+    }
+    for spare in [0, SPARE] {
+        let mut out = vec![DIRT; ROW.len() + spare];
+        assert_eq!(write_plan(&padded, &mut out), Ok(ROW.len()));
+        assert_eq!(out, [&ROW[..], &vec![DIRT; spare]].concat());
+    }
+    assert_eq!(write_plan(&UNRESET, &mut []), Err(ClockUnreset));
+}

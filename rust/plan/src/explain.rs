@@ -1,5 +1,6 @@
 //! Refusals in words, and what in a given model or evidence they are about.
 
+use crate::bytes::encode;
 use crate::flaw::{Flaw, Numbers};
 use crate::sheet::read_sheet;
 use crate::trail::read_trail;
@@ -58,8 +59,8 @@ const REFUSALS: [(&str, &str); LAST as usize] = [
     ),
     (
         "the lent output is too short",
-        "The marks or the evidence do not fit into the output. Nothing was written; lend more \
-         bytes.",
+        "The marks, the evidence or the plan's shortest form do not fit into the output. Nothing \
+         was written; lend more bytes.",
     ),
     (
         "the evidence is neither a sheet nor a trail",
@@ -119,8 +120,12 @@ pub fn about(number: Refusal, plan: Result<&Plan, &Flaw>, evidence: Option<&[u8]
     match (number, evidence) {
         (SCRATCH_TOO_SHORT, _) => room_words(states),
         (OUTPUT_TOO_SHORT, _) => {
-            let room = sheet_room(states);
-            format!("here: the marks take {states} bytes; a sheet takes at most {room}\n")
+            // The ceiling as a stay limit is as long spelt out as left out.
+            let (sheet, shortest) = (sheet_room(states), encode(plan).len());
+            format!(
+                "here: the marks take {states} bytes; a sheet takes at most {sheet}; the plan's \
+                 shortest form takes {shortest}\n"
+            )
         }
         (_, None) if number > OUTPUT_TOO_SHORT => {
             "here: the plan is read without a flaw; give the evidence too, since this refusal \

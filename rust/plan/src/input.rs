@@ -2,42 +2,66 @@
 //! text (the `.plan` files) or as model bytes; evidence as numbers in text or
 //! as bytes.
 
-use crate::bytes::decode;
+use crate::bytes::{decode, encode};
 use crate::explain::{about, refusal_words};
 use crate::mistake::{all_shown, Mistake};
 use crate::resolve::read_text;
-use crate::Plan;
+use crate::{Flaw, Plan};
+
+/// How a plan is written in its file.
+#[derive(Clone, Copy, Debug, PartialEq, Eq)]
+pub enum Form {
+    Text,
+    /// Numbers in text, one for each byte of the model.
+    List,
+    Bytes,
+}
 
 /// What a file of a plan holds.
 #[derive(Clone, Debug, PartialEq, Eq)]
-pub enum Content {
-    Plan(Plan),
-    /// Model bytes, as they were or from a list of numbers.
-    Bytes(Vec<u8>),
+pub struct Content {
+    pub form: Form,
+    /// The model bytes: those of the file, or of its text encoded.
+    pub model: Vec<u8>,
+    /// The plan of the text, or of the bytes if they have no flaw.
+    pub plan: Result<Plan, Flaw>,
+}
+
+impl Content {
+    fn of_model(form: Form, model: Vec<u8>) -> Content {
+        let plan = decode(&model);
+        Content { form, model, plan }
+    }
+
+    fn of_text(plan: Plan) -> Content {
+        Content {
+            form: Form::Text,
+            model: encode(&plan),
+            plan: Ok(plan),
+        }
+    }
 }
 
 /// The plan of a text or the bytes of a model, or all mistakes of a text.
 pub fn content_of(file: &str, bytes: &[u8]) -> Result<Content, String> {
     let Some(text) = Text::of(bytes) else {
-        return Ok(Content::Bytes(bytes.to_vec()));
+        return Ok(Content::of_model(Form::Bytes, bytes.to_vec()));
     };
     if text.lists_numbers() {
-        text.numbers(file).map(Content::Bytes)
+        let model = text.numbers(file)?;
+        Ok(Content::of_model(Form::List, model))
     } else {
-        text.plan(file).map(Content::Plan)
+        text.plan(file).map(Content::of_text)
     }
 }
 
 /// The plan in a file of any form, or all that is wrong with it.
 pub fn plan_in(file: &str, bytes: &[u8]) -> Result<Plan, String> {
-    match content_of(file, bytes)? {
-        Content::Plan(plan) => Ok(plan),
-        Content::Bytes(bytes) => decode(&bytes).map_err(|flaw| {
-            let meaning = refusal_words(flaw.refusal).unwrap_or_default();
-            let place = about(flaw.refusal, Err(&flaw), None);
-            format!("{file}: {meaning}{place}")
-        }),
-    }
+    content_of(file, bytes)?.plan.map_err(|flaw| {
+        let meaning = refusal_words(flaw.refusal).unwrap_or_default();
+        let place = about(flaw.refusal, Err(&flaw), None);
+        format!("{file}: {meaning}{place}")
+    })
 }
 
 /// The bytes of evidence, from bytes or from a list of numbers.
@@ -211,24 +235,39 @@ impl Clearing {
 #[cfg(test)]
 mod tests {
     use super::*;
+    use crate::print::write_list;
 
     const PLAN: &str = "clocks x\nceiling 1\nlocation a start # of \u{e9}t\u{e9}\n";
 
     #[test]
     fn told_apart_by_content() {
-        let plan = read_text(PLAN).unwrap();
-        let of_text = |text: &[u8]| content_of("f", text);
-        assert_eq!(of_text(PLAN.as_bytes()), Ok(Content::Plan(plan.clone())));
+        let named = read_text(PLAN).unwrap();
+        let seen = |bytes: &[u8]| content_of("f", bytes).unwrap();
         let model = vec![1, 1, 1, 1, 0, 0, 0, 0];
-        assert_eq!(of_text(&model), Ok(Content::Bytes(model.clone())));
-        let listed = "# a list\n1,1,1;1, 0 0 0\n0 # all\n";
-        assert_eq!(of_text(listed.as_bytes()), Ok(Content::Bytes(model)));
+        let text = Content {
+            form: Form::Text,
+            model: model.clone(),
+            plan: Ok(named.clone()),
+        };
+        assert_eq!(seen(PLAN.as_bytes()), text);
         // Saved with a byte order mark and the line ends of another system.
         let saved = format!("\u{feff}{}", PLAN.replace('\n', "\r\n"));
-        assert_eq!(of_text(saved.as_bytes()), Ok(Content::Plan(plan)));
+        assert_eq!(seen(saved.as_bytes()), text);
+        let listed = "# a list\n1,1,1;1, 0 0 0\n0 # all\n";
+        for (bytes, form) in [
+            (&model[..], Form::Bytes),
+            (listed.as_bytes(), Form::List),
+            (write_list(&model).as_bytes(), Form::List),
+        ] {
+            let plan = Ok(named.clone().with_plain_names());
+            let model = model.clone();
+            assert_eq!(seen(bytes), Content { form, model, plan });
+        }
         // Padded numbers, and noise.
         for bytes in [&[129, 0, 1][..], &[129, 128, 0], b"\x89\xf1\xff\xfe\xfa"] {
-            assert_eq!(of_text(bytes), Ok(Content::Bytes(bytes.to_vec())));
+            let content = seen(bytes);
+            assert_eq!((content.form, &content.model[..]), (Form::Bytes, bytes));
+            assert!(content.plan.is_err());
         }
     }
 

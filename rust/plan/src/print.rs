@@ -1,4 +1,5 @@
-//! A plan written as text, in the form that `read_text` reads.
+//! A plan written as text, in the form that `read_text` reads, and bytes as a
+//! list of numbers.
 
 use crate::units::Quantity;
 use crate::Plan;
@@ -21,6 +22,12 @@ pub fn write_text(plan: &Plan) -> String {
         text += &edge_line(plan, at);
     }
     text
+}
+
+/// Bytes as a list of numbers, on one line.
+pub fn write_list(bytes: &[u8]) -> String {
+    let numbers: Vec<String> = bytes.iter().map(u8::to_string).collect();
+    numbers.join(",") + "\n"
 }
 
 fn unit_lines(plan: &Plan) -> String {

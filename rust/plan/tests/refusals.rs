@@ -108,7 +108,7 @@ fn about_a_model() {
     );
     assert_eq!(
         about(9, Ok(tiny), None),
-        "here: the marks take 3 bytes; a sheet takes at most 4\n"
+        "here: the marks take 3 bytes; a sheet takes at most 4; the plan's shortest form takes 8\n"
     );
 }
 

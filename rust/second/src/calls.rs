@@ -1,7 +1,8 @@
-//! The calls: judge, marks, evidence, check, and beyond document 01 the margin
-//! of our sheet and the harm of our trail. Scratch is given as the four lengths
-//! alone, since this checker uses memory of its own; they decide only about
-//! refusal 8. Output is written on success and not otherwise.
+//! The calls: judge, marks, evidence, check; of document 02 the shortest form of
+//! a plan; and beyond both the margin of our sheet and the harm of our trail.
+//! Scratch is given as the four lengths alone, since this checker uses memory of
+//! its own; they decide only about refusal 8. Output is written on success and
+//! not otherwise.
 
 use crate::check::check;
 use crate::components::Components;
@@ -13,6 +14,7 @@ use crate::model::{read_model, Model};
 use crate::refusal::*;
 use crate::regions::Regions;
 use crate::sheet::our_sheet;
+use crate::shortest_plan::shortest_plan;
 use crate::trail::{our_trail, spell_trail, TrailStep};
 
 /// The lengths of the four scratch slices.
@@ -50,7 +52,7 @@ pub fn states_of(model: &Model) -> usize {
     model.locations.len() * Regions::of(model.clocks, model.ceiling).count()
 }
 
-/// Refusals 1 to 8, in which all calls agree.
+/// Refusals 1 to 8, in which all calls that need scratch agree.
 fn accept(model: &[u8], scratch: Scratch) -> Result<Graph, Refusal> {
     let model = read_model(model)?;
     if scratch.iter().any(|&length| length < states_of(&model)) {
@@ -80,13 +82,16 @@ pub fn judge(model: &[u8], scratch: Scratch) -> Result<Judgement, Refusal> {
 pub fn marks(model: &[u8], scratch: Scratch, out: &mut [u8]) -> Result<usize, Refusal> {
     let graph = accept(model, scratch)?;
     let marked = marked_set(&graph, &Components::new(&graph));
-    let Some(out) = out.get_mut(..marked.len()) else {
-        return Err(OUTPUT_TOO_SHORT);
-    };
-    for (out, mark) in out.iter_mut().zip(&marked) {
-        *out = u8::from(*mark);
-    }
-    Ok(marked.len())
+    let bytes: Vec<u8> = marked.into_iter().map(u8::from).collect();
+    put_first(&bytes, out)
+}
+
+/// Puts bytes at the front of the output and gives their number; refusal 9 if
+/// there are more of them.
+fn put_first(bytes: &[u8], out: &mut [u8]) -> Result<usize, Refusal> {
+    let out = out.get_mut(..bytes.len()).ok_or(OUTPUT_TOO_SHORT)?;
+    out.copy_from_slice(bytes);
+    Ok(bytes.len())
 }
 
 /// The judgement of a model together with its evidence: the number of steps
@@ -140,16 +145,18 @@ pub fn judge_and_write(
 ) -> Result<(Judgement, usize), Refusal> {
     let graph = accept(model, scratch)?;
     let (judgement, bytes) = evidence_of(&graph);
-    let Some(out) = out.get_mut(..bytes.len()) else {
-        return Err(OUTPUT_TOO_SHORT);
-    };
-    out.copy_from_slice(&bytes);
-    Ok((judgement, bytes.len()))
+    let written = put_first(&bytes, out)?;
+    Ok((judgement, written))
 }
 
 /// Checks evidence: 1 for a passing sheet, 2 for a passing trail.
 pub fn check_evidence(model: &[u8], evidence: &[u8], scratch: Scratch) -> Result<u32, Refusal> {
     check(&accept(model, scratch)?, evidence)
+}
+
+/// Writes the shortest form of a model and gives the number of its bytes.
+pub fn write_plan(model: &[u8], out: &mut [u8]) -> Result<usize, Refusal> {
+    put_first(&shortest_plan(&read_model(model)?), out)
 }
 
 /// The margin of the sheet that we write for a safe model.

@@ -3,7 +3,7 @@
 
 use crate::generate::Class;
 use crate::limits::{MAX_CEILING, MAX_CLOCKS, MAX_EDGES, MAX_LOCATIONS, NUMBER_BYTES};
-use crate::model::read_model;
+use crate::model::{read_model, MARK};
 use crate::numbers::{push_padded, shortest};
 use crate::random::Random;
 use crate::regions::Regions;
@@ -81,7 +81,7 @@ impl Draft {
 
     pub fn numbers(&self) -> Vec<u32> {
         let header = [
-            1,
+            MARK,
             self.clocks as u32,
             self.ceiling,
             self.kinds.len() as u32,

@@ -11,8 +11,8 @@ use crate::draft::{loop_draft, padded, pick_shape, random_draft, Draft, Shape};
 use crate::graph::Graph;
 use crate::limits::{MAX_CEILING, MAX_CLOCKS, MAX_EDGES, MAX_LOCATIONS, MAX_STATES};
 use crate::marking::{is_unsafe, reached, Closure};
-use crate::model::{read_model, Model};
-use crate::numbers::{shortest, LARGEST};
+use crate::model::{read_model, Field, Model};
+use crate::numbers::{numbers_of, shortest, LARGEST};
 use crate::program::SCRATCH;
 use crate::random::Random;
 use crate::refusal::*;
@@ -20,11 +20,12 @@ use std::collections::BTreeMap;
 use std::convert::Infallible;
 
 /// The kinds that `generate` knows.
-pub const KINDS: [&str; 20] = [
+pub const KINDS: [&str; 21] = [
     "safe",
     "drift",
     "plain",
     "padded",
+    "respelled",
     "tiny",
     "small",
     "middle",
@@ -83,10 +84,8 @@ pub fn generate(seed: u64, kind: &str) -> Option<Vec<u8>> {
         "safe" => accepted(random, Some(Class::Safe), usual).bytes(),
         "drift" => accepted(random, Some(Class::Drift), usual).bytes(),
         "plain" => accepted(random, Some(Class::Plain), usual).bytes(),
-        "padded" => {
-            let numbers = accepted(random, None, usual).numbers();
-            padded(random, &numbers)
-        }
+        "padded" => padded_model(random),
+        "respelled" => respelled_model(random),
         "tiny" => accepted(random, None, |shape| shape.states() <= TINY).bytes(),
         "small" => accepted(random, None, |shape| {
             (TINY + 1..=SMALL).contains(&shape.states())
@@ -179,6 +178,32 @@ fn accepted(random: &mut Random, class: Option<Class>, wanted: impl Fn(&Shape) -
     }
 }
 
+fn padded_model(random: &mut Random) -> Vec<u8> {
+    let numbers = accepted(random, None, usual).numbers();
+    padded(random, &numbers)
+}
+
+/// Of any size: what is done with spellings alone takes no states.
+fn respelled_model(random: &mut Random) -> Vec<u8> {
+    let model = accepted(random, None, |_| true).bytes();
+    respelled(random, &model).expect("drafts are accepted")
+}
+
+/// Another spelling of an accepted model: the lengths of its numbers are drawn
+/// anew and, where a limit is the ceiling, the stay field 0 or M+1. None for a
+/// model that is refused.
+pub fn respelled(random: &mut Random, model: &[u8]) -> Option<Vec<u8>> {
+    read_model(model).ok()?;
+    let mut numbers = numbers_of(model).ok()?;
+    for (at, (field, greatest)) in fields(&numbers).into_iter().enumerate() {
+        let for_ceiling = [0, greatest];
+        if matches!(field, Field::Stay { .. }) && for_ceiling.contains(&numbers[at]) {
+            numbers[at] = *random.pick(&for_ceiling);
+        }
+    }
+    Some(padded(random, &numbers))
+}
+
 /// A draft to damage: of any size, since refusals 1 to 7 come before 8.
 fn any_draft(random: &mut Random) -> Draft {
     let shape = pick_shape(random, |shape| {
@@ -218,11 +243,11 @@ fn too_long(random: &mut Random) -> Vec<u8> {
     bytes
 }
 
-/// The refusal and the greatest value of each number of a model, in order.
-fn fields(numbers: &[u32]) -> Vec<(Refusal, u32)> {
+/// What each number of a model stands for, in order, and its greatest value.
+fn fields(numbers: &[u32]) -> Vec<(Field, u32)> {
     let mut fields = Vec::new();
     let _: Result<Model, Infallible> = Model::from_fields(&mut |field, range| {
-        fields.push((field.refusal(), *range.end()));
+        fields.push((field, *range.end()));
         Ok(numbers[fields.len() - 1])
     });
     fields
@@ -238,7 +263,7 @@ fn out_of_range(random: &mut Random, refusal: Refusal) -> Vec<u8> {
     let mut numbers = draft.numbers();
     let fields = fields(&numbers);
     let places: Vec<usize> = (0..fields.len())
-        .filter(|&at| fields[at].0 == refusal)
+        .filter(|&at| fields[at].0.refusal() == refusal)
         .collect();
     let mut place = *random.pick(&places);
     let most = fields[place].1;

@@ -1,12 +1,13 @@
-//! A second drift checker for timed automata, written from document 01 alone.
+//! A second drift checker for timed automata, written from documents 01 and 02
+//! alone.
 //!
-//! The modules follow the order of that document: numbers, models, regions,
+//! The modules follow the order of document 01: numbers, models, regions,
 //! steps, the marked set, evidence, calls. `limits` has the limits of all of
-//! them. Beyond it, `margin` and `harm` tell how slight a drift is harmless and
-//! how soon another does harm. `brute` does everything again by naive
-//! definitions, `widened` searches runs without regions; `generate`, `mutate`
-//! and `other` make inputs for comparisons, `cases` those of a proved program
-//! with their answers.
+//! them. `shortest_plan` is request (a) of document 02. Beyond both, `margin`
+//! and `harm` tell how slight a drift is harmless and how soon another does
+//! harm. `brute` does everything again by naive definitions, `widened` searches
+//! runs without regions; `generate`, `mutate` and `other` make inputs for
+//! comparisons, `cases` those of a proved program with their answers.
 
 // Loops over clocks and states index several lists at once.
 #![allow(clippy::needless_range_loop)]
@@ -33,10 +34,11 @@ pub mod random;
 pub mod refusal;
 pub mod regions;
 pub mod sheet;
+pub mod shortest_plan;
 pub mod trail;
 pub mod widened;
 
-pub use calls::{check_evidence, judge, marks, write_evidence, Judgement};
+pub use calls::{check_evidence, judge, marks, write_evidence, write_plan, Judgement};
 pub use calls::{harm, sheet_margin, Harm, SheetMargin};
 pub use model::{read_model, Edge, Location, Model};
 pub use numbers::number_at;

@@ -2,11 +2,12 @@
 //! wrong arguments and unreadable files go to standard error with status 2.
 
 use second::bench::bench;
-use second::calls::{check_evidence, marks};
+use second::calls::check_evidence;
 use second::cases::{answers, cases};
 use second::generate::{generate, shares, KINDS};
 use second::mutate;
-use second::program::{bytes_of_text, evidence_bytes, harm_lines, judge_lines, margin_lines};
+use second::program::{bytes_of_text, evidence_bytes, marks_bytes, shortest_bytes};
+use second::program::{harm_lines, judge_lines, margin_lines};
 use second::program::{refusal_line, OUTPUT, SCRATCH};
 use std::io::{Read, Write};
 use std::process::ExitCode;
@@ -20,6 +21,7 @@ second marks FILE|- [SCRATCH]            one byte per state, 1 or 0, or the refu
 second margin FILE|- [SCRATCH]           three lines with our sheet's margin, or the refusal line
 second harm FILE|- [SCRATCH]             three lines with our trail's harm, or the refusal line
 second check MODEL EVIDENCE [SCRATCH]    passes 1, passes 2, or the refusal line
+second shortest FILE|- [--output N]      the model's shortest bytes, or the refusal line
 second generate SEED KIND                a model's bytes
 second generate --kinds                  the kinds
 second generate --shares [COUNT]         shares of kinds, classes and refusals
@@ -71,6 +73,7 @@ fn run(mut arguments: Vec<String>) -> Result<Vec<u8>, String> {
         ["check", model, evidence] => {
             Ok(check_line(&read(model)?, &read(evidence)?, scratch).into_bytes())
         }
+        ["shortest", file] => Ok(shortest_bytes(&read(file)?, output)),
         ["generate", rest @ ..] => generated(rest),
         ["mutate", rest @ ..] => mutated(rest),
         ["cases"] => Ok(cases().into_bytes()),
@@ -83,14 +86,6 @@ fn run(mut arguments: Vec<String>) -> Result<Vec<u8>, String> {
             Ok(Vec::new())
         }
         _ => Err(usage()),
-    }
-}
-
-fn marks_bytes(model: &[u8], scratch: usize, output: usize) -> Vec<u8> {
-    let mut out = vec![0; output];
-    match marks(model, [scratch; 4], &mut out) {
-        Ok(states) => out[..states].to_vec(),
-        Err(refusal) => refusal_line(refusal).into_bytes(),
     }
 }
 

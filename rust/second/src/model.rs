@@ -6,6 +6,9 @@ use crate::numbers::Reader;
 use crate::refusal::*;
 use std::ops::RangeInclusive;
 
+/// The mark of a model, its first number.
+pub const MARK: u32 = 1;
+
 #[derive(Clone, Debug, PartialEq, Eq)]
 pub struct Location {
     pub forbidden: bool,
@@ -92,7 +95,7 @@ impl Model {
     /// The model of numbers that are asked for one by one, in the order of the
     /// bytes: whoever gives them sees what each one stands for.
     pub fn from_fields<E>(next: Next<E>) -> Result<Model, E> {
-        next(Field::Mark, 1..=1)?;
+        next(Field::Mark, MARK..=MARK)?;
         let clocks = next(Field::Clocks, 1..=MAX_CLOCKS as u32)?;
         let ceiling = next(Field::Ceiling, 1..=MAX_CEILING.into())?;
         let locations = next(Field::Locations, 1..=MAX_LOCATIONS as u32)?;

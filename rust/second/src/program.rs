@@ -1,7 +1,7 @@
-//! The two programs of document 01, what the command tells of drift, and the
-//! text form of byte files.
+//! The two programs of document 01, what the command tells of drift or writes
+//! besides, and the text form of byte files.
 
-use crate::calls::{harm, judge_and_write, sheet_margin, write_evidence};
+use crate::calls::{harm, judge_and_write, marks, sheet_margin, write_evidence, write_plan};
 use crate::calls::{Harm, Judgement, SheetMargin};
 use crate::refusal::Refusal;
 
@@ -62,10 +62,28 @@ pub fn refusal_line(refusal: Refusal) -> String {
 
 /// The evidence bytes, or the refusal line.
 pub fn evidence_bytes(model: &[u8], scratch: usize, output: usize) -> Vec<u8> {
+    written(output, |out| {
+        let (_, bytes) = write_evidence(model, [scratch; 4], out)?;
+        Ok(bytes)
+    })
+}
+
+/// A byte for each state, 1 or 0, or the refusal line.
+pub fn marks_bytes(model: &[u8], scratch: usize, output: usize) -> Vec<u8> {
+    written(output, |out| marks(model, [scratch; 4], out))
+}
+
+/// The shortest form of a model, or the refusal line.
+pub fn shortest_bytes(model: &[u8], output: usize) -> Vec<u8> {
+    written(output, |out| write_plan(model, out))
+}
+
+/// The bytes that a call writes into output of this length, or the refusal line.
+fn written(output: usize, call: impl FnOnce(&mut [u8]) -> Result<usize, Refusal>) -> Vec<u8> {
     let mut out = vec![0; output];
-    match write_evidence(model, [scratch; 4], &mut out) {
-        Ok((_, written)) => {
-            out.truncate(written);
+    match call(&mut out) {
+        Ok(bytes) => {
+            out.truncate(bytes);
             out
         }
         Err(refusal) => refusal_line(refusal).into_bytes(),

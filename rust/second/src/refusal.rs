@@ -18,7 +18,7 @@ pub const BYTES_REMAIN: Refusal = 6;
 pub const CLOCK_UNRESET: Refusal = 7;
 /// A scratch slice is shorter than the number of states.
 pub const SCRATCH_TOO_SHORT: Refusal = 8;
-/// The output is too short for the marks or the evidence.
+/// The output is too short for the marks, the evidence or the plan.
 pub const OUTPUT_TOO_SHORT: Refusal = 9;
 /// The evidence is neither a sheet nor a trail.
 pub const NO_EVIDENCE: Refusal = 10;

@@ -4,11 +4,11 @@
 mod common;
 
 use common::{LOOP, LOOP_TRAIL};
-use second::brute::Brute;
+use second::brute::{spellings, Brute};
 use second::cases::rules::{broken_rules, Rule, RULES};
 use second::cases::{answers, cases};
 use second::graph::Graph;
-use second::limits::MAX_CLOCKS;
+use second::limits::{MAX_CLOCKS, MAX_EDGES};
 use second::numbers::{number_at, numbers_of};
 use second::program::{bytes_of_text, SCRATCH};
 use second::read_model;
@@ -73,7 +73,7 @@ fn every_answer_comes_up() {
 }
 
 /// Each operation gives each answer that it has: both verdicts, refusals up
-/// to 7, 8 if it is lent scratch, 9 if it is lent output.
+/// to 7, 8 if it is lent scratch, 9 if it is lent output, and no other.
 #[test]
 fn every_answer_of_an_operation_comes_up() {
     let all = all_answered();
@@ -84,11 +84,22 @@ fn every_answer_of_an_operation_comes_up() {
             rest.is_some_and(|rest| !rest.starts_with(|c: char| c.is_ascii_digit()))
         })
     };
-    let lent_scratch = [("judge", 8), ("sheet_margin", 8), ("harm", 8)];
-    let others = [("marks", 9), ("write", 9), ("margin", 7)];
-    for (word, most) in lent_scratch.into_iter().chain(others) {
-        for refusal in 0..=most {
-            assert!(gives(word, &refusal.to_string()), "{word} {refusal}");
+    for (word, beyond_7) in [
+        ("judge", &[8][..]),
+        ("sheet_margin", &[8]),
+        ("harm", &[8]),
+        ("marks", &[8, 9]),
+        ("write", &[8, 9]),
+        ("plan", &[9]),
+        ("margin", &[]),
+    ] {
+        for number in 0..=14 {
+            let expected = number <= 7 || beyond_7.contains(&number);
+            assert_eq!(
+                gives(word, &number.to_string()),
+                expected,
+                "{word} {number}"
+            );
         }
     }
     for word in ["judge", "write", "sheet_margin", "harm"] {
@@ -165,6 +176,34 @@ fn the_brute_force_route_answers_alike() {
             assert_eq!(&words, answer, "{model:?} {evidence:?}");
         }
     }
+}
+
+/// The plans that are put in shortest form: what is written is what the
+/// brute-force route finds, and dirt stays behind it.
+#[test]
+fn the_brute_force_route_redraws_alike() {
+    let mut redrawn = 0;
+    for (model, line, answer) in all_answered() {
+        let Some(length) = line.strip_prefix("plan ") else {
+            continue;
+        };
+        let mut out = vec!["7".to_string(); length.parse().unwrap()];
+        let number = match spellings::least(&model, MAX_EDGES as u32) {
+            Ok(least) if least.len() <= out.len() => {
+                let words = least.iter().map(u8::to_string);
+                out.iter_mut()
+                    .zip(words)
+                    .for_each(|(out, word)| *out = word);
+                format!("0 {}", least.len())
+            }
+            Ok(_) => "9".to_string(),
+            Err(refusal) => refusal.to_string(),
+        };
+        let words = format!("{number}, out {}", out.join(","));
+        assert_eq!(answer, words.trim_end(), "{model:?}");
+        redrawn += 1;
+    }
+    assert!(redrawn >= 80);
 }
 
 /// The stored input of the proved program is these cases, its stored output

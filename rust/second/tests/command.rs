@@ -82,6 +82,26 @@ fn margin_and_harm() {
 }
 
 #[test]
+fn shortest_plans() {
+    let row = b"129,128,0; 1,129,0,1; 0,0 # header\n 0,2 # M+1";
+    assert_eq!(answer(&["shortest", &file("row.plan", row)], &[]), ROW);
+    assert_eq!(answer(&["shortest", "-"], &LOOP), LOOP);
+    assert_eq!(answer(&["shortest", "-", "--output", "46"], &LOOP), LOOP);
+    for (output, input, line) in [
+        ("45", &LOOP[..], &b"refused 9\n"[..]),
+        ("0", &LOOP, b"refused 9\n"),
+        ("0", &LOOP[..45], b"refused 1\n"),
+        ("46", &[0; 46], b"refused 3\n"),
+    ] {
+        assert_eq!(answer(&["shortest", "-", "--output", output], input), line);
+    }
+    // No scratch is needed, so none is too short.
+    let many = second::generate::generate(0, "largest").unwrap();
+    let short = answer(&["shortest", "-"], &many);
+    assert_eq!(second::read_model(&short), second::read_model(&many));
+}
+
+#[test]
 fn more_states_than_the_scratch() {
     let three_locations = [1, 3, 4, 3, 0, 0, 0, 0, 0, 0, 0, 0, 0, 0, 0, 0, 0, 0];
     assert_eq!(answer(&["judge", "-"], &three_locations), b"refused 8\n");
@@ -129,6 +149,8 @@ fn wrong_arguments() {
         &["generate", "1", "x"],
         &[],
         &["judge", "-", "x"],
+        &["shortest"],
+        &["shortest", "-", "4000"],
     ] {
         assert_eq!(second(arguments, &[]).status.code(), Some(2));
     }
@@ -142,7 +164,7 @@ fn cases_and_answers() {
     assert!(printed.contains("\n1,5,3,1: 0 1\n"));
     assert!(printed.contains("\njudge: 0 1 132 8, zero 132 132 132 132\n"));
     let row = b"- row\n1,1,1,1,0,0,0,0\n1,5,3,1\njudge\njudge 3,3,3,3\nmarks 4,3,3,3,3\n\
-        sheet_margin\nsheet_margin 3,3,3,3\nharm 3,3,3,3\n";
+        sheet_margin\nsheet_margin 3,3,3,3\nharm 3,3,3,3\nplan\nplan 0\nplan 9\n";
     let lent = String::from_utf8(answer(&["answers", "-", "2"], row)).unwrap();
     let lines: Vec<&str> = lent.lines().collect();
     assert_eq!(
@@ -156,6 +178,9 @@ fn cases_and_answers() {
             "sheet_margin: 8, zero 0 0 0 0",
             "sheet_margin 3,3,3,3: 0 0 3 2, zero 3 3 3 3",
             "harm 3,3,3,3: 0 0 3 0 0, zero 3 3 3 3",
+            "plan: 9, out 7,7",
+            "plan 0: 9, out",
+            "plan 9: 0 8, out 1,1,1,1,0,0,0,0,7",
         ]
     );
     for wrong in [

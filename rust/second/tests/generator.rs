@@ -5,11 +5,13 @@ mod common;
 use common::*;
 use second::calls::states_of;
 use second::components::Components;
-use second::generate::{classify, generate, shares, Class, KINDS, MIDDLE, SMALL, TINY};
+use second::generate::{classify, generate, respelled, shares};
+use second::generate::{Class, KINDS, MIDDLE, SMALL, TINY};
 use second::graph::Graph;
 use second::limits::{MAX_CLOCKS, MAX_STATES};
 use second::marking::{reached, Closure};
 use second::mutate::{self, mutate, mutate_as};
+use second::numbers::numbers_of;
 use second::random::Random;
 use second::{judge, read_model};
 use std::collections::BTreeSet;
@@ -61,16 +63,54 @@ fn sizes_and_clocks() {
     }
 }
 
+/// Every number of a model is below 128, so that one of more bytes is padded.
+fn is_padded(bytes: &[u8]) -> bool {
+    bytes.len() > numbers_of(bytes).unwrap().len()
+}
+
 #[test]
 fn padded_models_are_longer() {
-    for seed in 0..60 {
-        let bytes = generate(seed, "padded").unwrap();
-        let model = read_model(&bytes).unwrap();
-        let numbers = 6
-            + model.locations.len() * (1 + model.clocks)
-            + model.edges.len() * (3 + 2 * model.clocks);
-        assert!(bytes.len() > numbers);
+    for kind in ["padded", "respelled"] {
+        for seed in 0..60 {
+            let bytes = generate(seed, kind).unwrap();
+            let model = read_model(&bytes).unwrap();
+            assert!(bytes.len() > count_of_numbers(&model) && is_padded(&bytes));
+        }
     }
+}
+
+#[test]
+fn respelled_models_stay_the_same() {
+    let mut with_stay = 0;
+    for seed in 0..60 {
+        let random = &mut Random::new(seed);
+        let bytes = generate(seed, "small").unwrap();
+        let other = respelled(random, &bytes).unwrap();
+        assert!(is_padded(&other) && !is_padded(&bytes));
+        assert_eq!(read_model(&other), read_model(&bytes));
+        with_stay += usize::from(has_stay_above_ceiling(&other));
+        assert_eq!(respelled(random, &bytes[1..]), None);
+    }
+    assert!(with_stay >= 50);
+}
+
+/// A tenth is padded, and a half has a stay field of M+1.
+#[test]
+fn many_accepted_models_are_not_in_shortest_form() {
+    let all = KINDS
+        .iter()
+        .flat_map(|kind| (0..40).map(|seed| generate(seed, kind).unwrap()));
+    let accepted: Vec<Vec<u8>> = all.filter(|bytes| read_model(bytes).is_ok()).collect();
+    let padded = accepted.iter().filter(|bytes| is_padded(bytes)).count();
+    let stays = accepted
+        .iter()
+        .filter(|bytes| has_stay_above_ceiling(bytes))
+        .count();
+    println!(
+        "accepted {}: padded {padded}, with a stay field of M+1 {stays}",
+        accepted.len()
+    );
+    assert!(10 * padded >= accepted.len() && 2 * stays >= accepted.len());
 }
 
 #[test]

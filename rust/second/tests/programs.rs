@@ -3,7 +3,8 @@
 
 use second::calls::states_of;
 use second::margin::by_drawing;
-use second::program::{bytes_of_text, evidence_bytes, judge_lines, refusal_line, OUTPUT, SCRATCH};
+use second::program::{bytes_of_text, evidence_bytes, judge_lines, refusal_line, shortest_bytes};
+use second::program::{OUTPUT, SCRATCH};
 use second::read_model;
 use std::collections::BTreeSet;
 use std::fs::{read, read_dir, read_to_string};
@@ -68,6 +69,7 @@ fn the_programs_write_what_is_stored() {
         let written = match program.as_str() {
             "judge" => judge_lines(&plan(&name), SCRATCH, OUTPUT).into_bytes(),
             "evidence_bytes" => evidence_bytes(&plan(&name), SCRATCH, OUTPUT),
+            "plan_bytes" => shortest_bytes(&plan(&name), OUTPUT),
             "tolerance" => tolerance_lines(&plan(&name)).into_bytes(),
             _ => panic!("{program}"),
         };
@@ -92,6 +94,7 @@ fn every_answer_is_among_them() {
     assert!(has("evidence_bytes", &[1]) && has("evidence_bytes", &[2]));
     assert!(has("evidence_bytes", b"refused ") && has("tolerance", b"refused "));
     assert!(has("tolerance", b"states "));
+    assert!(has("plan_bytes", &[1]) && has("plan_bytes", b"refused "));
     for name in names() {
         if let Some(plan) = name.strip_suffix(".plan") {
             assert!(cases.iter().any(|(used, _, _)| used == plan), "{plan}");

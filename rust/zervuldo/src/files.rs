@@ -1,7 +1,7 @@
 //! Files read and written. A dash stands for standard input and output.
 
 use crate::outcome::Failure;
-use std::fs::File;
+use std::fs::{self, File};
 use std::io::{self, Read, Write};
 use std::path::Path;
 
@@ -52,6 +52,15 @@ fn store(file: &str, content: &[u8]) -> io::Result<()> {
         Err(error) if error.kind() == io::ErrorKind::InvalidInput => Ok(()),
         synced => synced,
     }
+}
+
+/// Whether two names stand for one file that there is.
+pub fn are_one(one: &str, other: &str) -> bool {
+    let place = |file| match file {
+        STANDARD => None,
+        file => fs::canonicalize(file).ok(),
+    };
+    place(one).is_some_and(|one| place(other) == Some(one))
 }
 
 fn failed(file: &str, error: &io::Error) -> Failure {

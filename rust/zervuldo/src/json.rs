@@ -73,7 +73,7 @@ impl Json {
         Json::Number(number.into())
     }
 
-    fn count(number: usize) -> Json {
+    pub fn count(number: usize) -> Json {
         Json::Number(number as u128)
     }
 

@@ -61,3 +61,12 @@ impl Library {
         drift::harm(model, self.buffers.lend())
     }
 }
+
+/// The shortest form of a plan. It needs no scratch, and is never longer than
+/// the bytes that are given.
+pub fn shortest(model: &[u8]) -> Result<Vec<u8>, Refusal> {
+    let mut out = vec![0; model.len()];
+    let written = drift::write_plan(model, &mut out)?;
+    out.truncate(written);
+    Ok(out)
+}

@@ -4,9 +4,11 @@
 #[derive(Clone, Copy, Debug, PartialEq, Eq, PartialOrd, Ord)]
 #[repr(u8)]
 pub enum Status {
-    /// Safe, or the evidence passes, or what was asked for is done.
+    /// Safe, or the evidence passes, or the plans are the same, or what was
+    /// asked for is done.
     Good = 0,
-    /// Unsafe, or the evidence fails.
+    /// Unsafe, or the evidence fails, or the plans differ, or a plan is not in
+    /// its shortest form.
     Bad = 1,
     /// A plan is refused, or its text has mistakes.
     Refused = 2,

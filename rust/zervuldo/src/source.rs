@@ -8,9 +8,8 @@ use crate::outcome::Failure;
 use crate::perfect::perfect;
 use crate::warnings::warnings;
 use drift::{Harm, Kind, Refusal, SheetMargin, Verdict};
-use plan::bytes::{decode, encode};
 use plan::explain::{about, refusal_words};
-use plan::input::{content_of, Content};
+use plan::input::{content_of, Content, Form};
 use plan::trail::{read_trail, start_of};
 use plan::units::Quantity;
 use plan::{Flaw, Plan, Units};
@@ -35,19 +34,20 @@ pub struct Accepted {
 impl Source {
     /// The plan and its bytes, or its mistakes, or why it is refused.
     pub fn accepted(&self) -> Result<Accepted, Failure> {
-        let content = content_of(&self.file, &self.content).map_err(Failure::refused)?;
-        let (model, plan) = match content {
-            Content::Plan(plan) => (encode(&plan), Ok(plan)),
-            Content::Bytes(model) => {
-                let plan = decode(&model);
-                (model, plan)
-            }
-        };
+        let (Accepted { plan, model }, _) = self.read()?;
+        let plan = self.with_units(plan)?;
+        Ok(Accepted { plan, model })
+    }
+
+    /// The same for those to whom real units are no matter, and the form of the
+    /// file.
+    pub fn read(&self) -> Result<(Accepted, Form), Failure> {
+        let Content { form, model, plan } =
+            content_of(&self.file, &self.content).map_err(Failure::refused)?;
         // The call that needs no scratch: it reads the model as all of them do.
         drift::margin(&model).map_err(|refusal| self.refused(refusal, plan.as_ref()))?;
         let plan = plan.map_err(|flaw| self.at_odds(&flaw.words))?;
-        let plan = self.with_units(plan)?;
-        Ok(Accepted { plan, model })
+        Ok((Accepted { plan, model }, form))
     }
 
     /// The refusal of the proved library in words; where it is comes from a
@@ -60,7 +60,7 @@ impl Source {
     }
 
     /// What cannot be unless there is a mistake in this program.
-    fn at_odds(&self, words: &str) -> Failure {
+    pub fn at_odds(&self, words: &str) -> Failure {
         let file = &self.file;
         Failure::failed(format!(
             "{file}: the proved library and the code around it are at odds: {words}\n"
@@ -109,8 +109,8 @@ impl Source {
         })
     }
 
-    /// The answer of a call on a plan that the judge accepted.
-    fn proved<T>(&self, answer: Result<T, Refusal>) -> Result<T, Failure> {
+    /// The answer of a call on a plan that the library accepted.
+    pub fn proved<T>(&self, answer: Result<T, Refusal>) -> Result<T, Failure> {
         answer.map_err(|refusal| self.at_odds(&refusal.to_string()))
     }
 

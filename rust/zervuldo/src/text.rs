@@ -21,6 +21,14 @@ pub fn wrapped(label: &str, indent: usize, words: &str) -> String {
     lines.join("\n") + "\n"
 }
 
+/// So many of a thing.
+pub fn counted(count: usize, thing: &str) -> String {
+    match count {
+        1 => format!("1 {thing}"),
+        count => format!("{count} {thing}s"),
+    }
+}
+
 /// Rows of two columns.
 pub fn columns(rows: &[(String, &str)]) -> String {
     let widths = rows.iter().map(|(left, _)| left.chars().count());

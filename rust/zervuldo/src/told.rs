@@ -1,7 +1,7 @@
 //! Facts told in words: one plan line by line, several as a table.
 
 use crate::facts::{Example, Facts, Finding, Perfect, Safe, Unsafe};
-use crate::text::wrapped;
+use crate::text::{counted, wrapped};
 use crate::units::{drift_words, grouped, margin_words, units_words, Drift, Window};
 use plan::Plan;
 
@@ -200,8 +200,7 @@ pub fn row(facts: &Facts) -> [String; 4] {
     };
     let warned = match facts.warnings.len() {
         0 => String::new(),
-        1 => "; 1 warning".to_string(),
-        count => format!("; {count} warnings"),
+        count => format!("; {}", counted(count, "warning")),
     };
     [
         facts.title.clone(),

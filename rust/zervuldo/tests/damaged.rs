@@ -2,11 +2,10 @@
 
 mod common;
 
-use common::plan;
+use common::{outcome, plan};
 use second::random::Random;
 use std::path::Path;
-use zervuldo::command::run;
-use zervuldo::outcome::{Outcome, Status};
+use zervuldo::outcome::Status;
 
 const ROUNDS: u64 = 10_000;
 
@@ -14,11 +13,6 @@ const ROUNDS: u64 = 10_000;
 struct Whole {
     plans: Vec<Vec<u8>>,
     evidence: Vec<(String, Vec<u8>)>,
-}
-
-fn outcome(words: &[&str]) -> Outcome {
-    let words: Vec<String> = words.iter().map(|word| word.to_string()).collect();
-    run(&words)
 }
 
 fn whole() -> Whole {
@@ -79,26 +73,38 @@ fn command_on_plan(random: &mut Random) -> &'static [&'static str] {
         1 => &["draw"],
         2 => &["draw", "--plain"],
         3..=49 => &["words"],
-        50..=299 => &["judge"],
-        300..=374 => &["encode"],
-        375..=449 => &["decode"],
+        50..=249 => &["judge"],
+        250..=299 => &["encode"],
+        300..=349 => &["decode"],
+        350..=399 => &["shorten"],
+        400..=449 => &["shorten", "--check"],
         _ => &["explain", "4"],
+    }
+}
+
+/// What is tried on a damaged file: evidence beside its plan, a plan beside a
+/// whole one, or a plan alone.
+fn trial<'a>(random: &mut Random, whole: &'a Whole, name: &'a str) -> (Vec<u8>, Vec<&'a str>) {
+    let (file, evidence) = random.pick(&whole.evidence);
+    let plan = random.pick(&whole.plans);
+    match random.below(12) {
+        0..=3 => {
+            let command = *random.pick(&["check", "words"]);
+            (evidence.clone(), vec![command, file, name])
+        }
+        4 => (plan.clone(), vec!["compare", file, name]),
+        5 => (plan.clone(), vec!["compare", name, file]),
+        _ => {
+            let arguments = [command_on_plan(random), &[name]].concat();
+            (plan.clone(), arguments)
+        }
     }
 }
 
 /// A command over a damaged file: it ends with an answer or a message.
 fn tried(random: &mut Random, whole: &Whole, file: &Path) -> Status {
-    let name = file.to_str().unwrap();
-    let arguments = if random.one_in(3) {
-        let (plan, evidence) = random.pick(&whole.evidence);
-        std::fs::write(file, damaged(random, evidence.clone())).unwrap();
-        let command = *random.pick(&["check", "words"]);
-        vec![command, plan, name]
-    } else {
-        let plan = random.pick(&whole.plans).clone();
-        std::fs::write(file, damaged(random, plan)).unwrap();
-        [command_on_plan(random), &[name]].concat()
-    };
+    let (content, arguments) = trial(random, whole, file.to_str().unwrap());
+    std::fs::write(file, damaged(random, content)).unwrap();
     let found = outcome(&arguments);
     let says_something = !found.output.is_empty() || !found.messages.is_empty();
     let is_sound = says_something && found.status != Status::Failed;

@@ -3,7 +3,7 @@
 mod common;
 
 use common::*;
-use std::process::{Command, Stdio};
+use std::process::Command;
 use zervuldo::command::COMMANDS;
 
 #[test]
@@ -28,7 +28,7 @@ fn help_for_all_and_for_each() {
 }
 
 /// Wrong arguments, P standing for a plan, and what is said of them.
-const WRONG: [(&str, &str); 15] = [
+const WRONG: [(&str, &str); 17] = [
     ("", "zervuldo: judge the timing"),
     (
         "jugde P",
@@ -37,6 +37,8 @@ const WRONG: [(&str, &str); 15] = [
     ("judge", "too few arguments: it takes PLAN..."),
     ("check P", "too few arguments: it takes PLAN EVIDENCE"),
     ("encode P P", "too many arguments"),
+    ("shorten P P", "too many arguments: it takes PLAN"),
+    ("compare P", "too few arguments: it takes PLAN OTHER"),
     ("completion P", "too many arguments: it takes none"),
     (
         "judge P --jsn",
@@ -100,33 +102,13 @@ fn output_to_a_file() {
 /// went away.
 #[test]
 fn a_full_disk() {
-    let full = || {
-        std::fs::OpenOptions::new()
-            .write(true)
-            .open("/dev/full")
-            .unwrap()
-    };
-    let output = zervuldo()
-        .args(["judge", &plan("tiny.txt")])
-        .stdout(Stdio::from(full()))
-        .output()
-        .unwrap();
-    assert_eq!(output.status.code(), Some(FAILED));
-    let shown = String::from_utf8(output.stderr).unwrap();
-    assert!(shown.contains("No space left on device"), "{shown}");
+    onto_a_full_disk(&["judge", &plan("tiny.txt")]);
     let shown = complaint(&["report", &plan("tiny.txt"), "-o", "/dev/full"], FAILED);
     assert!(
         shown.starts_with("/dev/full: No space left on device"),
         "{shown}"
     );
-    let mut child = zervuldo()
-        .args(["draw", &plan("largest.txt")])
-        .stdout(Stdio::piped())
-        .stderr(Stdio::piped())
-        .spawn()
-        .unwrap();
-    drop(child.stdout.take());
-    assert_eq!(child.wait().unwrap().code(), Some(FAILED));
+    into_a_closed_pipe(&["draw", "-"]);
 }
 
 /// The man page has every command and option, and none of its signs by chance.
@@ -169,6 +151,9 @@ fn completion() {
     assert_eq!(completed("zervuldo ju"), "judge\n");
     assert_eq!(completed("zervuldo judge --e"), "--evidence\n");
     assert_eq!(completed("zervuldo draw --p"), "--plain\n");
+    assert_eq!(completed("zervuldo sh"), "shorten\n");
+    assert_eq!(completed("zervuldo shorten --c"), "--check\n");
+    assert_eq!(completed("zervuldo help com"), "compare completion\n");
     assert_eq!(completed("zervuldo help ex"), "explain\n");
     assert_eq!(completed("zervuldo judge pol"), "\n");
 }

@@ -1,6 +1,6 @@
 -- `drift_c::drift_marks` meets its contract.
 use mathlib.Core.Path.{ap, _∙_}
-use Rattle.drift_c.specs.Words.{marksWord}
+use Rattle.drift_c.specs.Words.{countWord}
 use Rattle.drift_c.proofs.Fields.{marks-fields}
 use borrow.Author.Needs.{needs}
 use Rattle.drift_c.proofs.drift_marks.Statement.{statement}
@@ -30,7 +30,7 @@ same-length-5 c = search needs
 
 returns : tie.Need-returns
 returns c =
-    (c .marks-word .ensures ∙ ap marksWord (c .before .before .before .before .before .before .before .before .before .before .before .marks .ensures .0), c .before .before .before .before .before .before .before .before .before .before .before .marks .ensures .1)
+    (c .marks-word .ensures ∙ ap countWord (c .before .before .before .before .before .before .before .before .before .before .before .marks .ensures .0), c .before .before .before .before .before .before .before .before .before .before .before .marks .ensures .1)
 
 pub drift-marks-spec : {M : Type 1} → statement M
 drift-marks-spec =

@@ -3,8 +3,8 @@ use mathlib.Core.Path.{sym, ap, subst, _∙_}
 use native.Mathlib.Omega.{arith}
 use Rattle.op_marks.specs.declared.Marking.{Marking}
 use Rattle.op_marks.specs.Marks.{markingAnswer}
-use Rattle.drift_c.specs.Words.{marksWord, Fields}
-use Rattle.drift_c.proofs.Fields.{marks-word-is, marks-refused-is}
+use Rattle.drift_c.specs.Words.{countWord, Fields}
+use Rattle.drift_c.proofs.Fields.{count-word-is, count-refused-is}
 use borrow.Author.Needs.{needs}
 use Rattle.drift_c.proofs.marks_word.Statement.{statement}
 use Rattle.drift_c.proofs.marks_word.Tie as tie
@@ -26,12 +26,12 @@ cast-result c = search needs
 returns : tie.Need-returns
 unfolding markingAnswer
 returns c =
-    marks-word-is _ ∙ ap (λ (j : Marking). marksWord (markingAnswer j)) (sym (c .before .answer .given .1))
+    count-word-is _ ∙ ap (λ (j : Marking). countWord (markingAnswer j)) (sym (c .before .answer .given .1))
 
 returns-2 : tie.Need-returns-2
 unfolding markingAnswer
 returns-2 c =
-    marks-refused-is _ ∙ ap (λ (j : Marking). marksWord (markingAnswer j)) (sym (c .before .answer2 .given .1))
+    count-refused-is _ ∙ ap (λ (j : Marking). countWord (markingAnswer j)) (sym (c .before .answer2 .given .1))
 
 pub marks-word-spec : {M : Type 1} → statement M
 marks-word-spec =

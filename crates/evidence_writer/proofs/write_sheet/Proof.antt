@@ -3,7 +3,8 @@ use native.Mathlib.Omega.{arith}
 use mathlib.Core.Path.{ap}
 use lib.ListN.{length}
 use borrow.Author.Needs.{needs}
-use Rattle.evidence_writer.proofs.Output.{none-lent, sheet-is, measured, laid-in, left-out}
+use Rattle.spelling.proofs.Lays.{none-lent}
+use Rattle.evidence_writer.proofs.Output.{sheet-is, measured, laid-in, left-out}
 use Rattle.evidence_writer.proofs.write_sheet.Statement.{statement}
 use Rattle.evidence_writer.proofs.write_sheet.Tie as tie
 

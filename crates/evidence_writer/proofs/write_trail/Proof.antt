@@ -3,7 +3,8 @@ use native.Mathlib.Omega.{arith}
 use mathlib.Core.Path.{ap, _∙_}
 use lib.ListN.{length}
 use borrow.Author.Needs.{needs}
-use Rattle.evidence_writer.proofs.Output.{none-lent, trail-is, measured, laid-in, left-out}
+use Rattle.spelling.proofs.Lays.{none-lent}
+use Rattle.evidence_writer.proofs.Output.{trail-is, measured, laid-in, left-out}
 use Rattle.evidence_writer.proofs.write_trail.Statement.{statement}
 use Rattle.evidence_writer.proofs.write_trail.Tie as tie
 

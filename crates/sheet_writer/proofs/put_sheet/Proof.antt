@@ -6,8 +6,8 @@ use mathlib.Core.Path.{_∙_}
 use lib.ListN.{length}
 use Rattle.theory.specs.Below.{tab}
 use Rattle.number.specs.Number.{spellAll}
+use Rattle.number.proofs.Spelling.{spell-few}
 use Rattle.spelling.specs.Lays.{Lays}
-use Rattle.spelling.proofs.Lays.{spell-few}
 use Rattle.sheet_writer.proofs.Numbers.{found, laid-none, laid-next, room-next, same-long, few-states, height-fits, all-laid}
 use Rattle.sheet_writer.proofs.put_sheet.Statement.{statement}
 use Rattle.sheet_writer.proofs.put_sheet.Tie as tie

@@ -3,6 +3,7 @@
 
 use crate::limits::{MAX_CEILING, MAX_CLOCKS, MAX_EDGES, MAX_LOCATIONS, NUMBER_BYTES};
 
+#[derive(Debug, PartialEq, Eq, PartialOrd, Ord)]
 pub struct Plan {
     pub clocks: usize,
     pub ceiling: u32,
@@ -12,6 +13,7 @@ pub struct Plan {
     pub edges: Vec<PlanEdge>,
 }
 
+#[derive(Debug, PartialEq, Eq, PartialOrd, Ord)]
 pub struct PlanEdge {
     pub from: usize,
     pub to: usize,

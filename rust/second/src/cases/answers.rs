@@ -1,8 +1,8 @@
 //! What the proved program prints for the text of cases.
 
 use super::{listed, MOST};
-use crate::calls::{check_evidence, harm, judge, marks, sheet_margin, states_of, write_evidence};
-use crate::calls::{Harm, Scratch, SheetMargin};
+use crate::calls::{check_evidence, harm, judge, marks, sheet_margin, states_of};
+use crate::calls::{write_evidence, write_plan, Harm, Scratch, SheetMargin};
 use crate::margin::by_drawing;
 use crate::model::read_model;
 use crate::program::bytes_of_text;
@@ -30,8 +30,8 @@ pub fn answers(text: &str, length: usize) -> Result<String, String> {
     Ok(printed)
 }
 
-/// 01's number and values; for an operation that is lent scratch also how
-/// much of it is zero, and the output.
+/// 01's number and values; also how much of the scratch is zero, and the
+/// output, where they are lent.
 fn answer(model: &[u8], line: &str, length: usize) -> Result<String, String> {
     let (word, rest) = line.split_once(' ').unwrap_or((line, ""));
     let lent = lengths(rest)?;
@@ -41,6 +41,7 @@ fn answer(model: &[u8], line: &str, length: usize) -> Result<String, String> {
         "judge" => judge_answer(model, scratch(0)),
         "marks" => marks_answer(model, scratch(1), lent(0)),
         "write" => write_answer(model, scratch(1), lent(0)),
+        "plan" => plan_answer(model, lent(0)),
         "margin" => margin_answer(model),
         "sheet_margin" => sheet_margin_answer(model, scratch(0)),
         "harm" => harm_answer(model, scratch(0)),
@@ -102,6 +103,12 @@ fn write_answer(model: &[u8], scratch: Scratch, output: usize) -> String {
     let zeros = zeros(model, &found);
     let values = found.map(|(is_unsafe, bytes)| vec![is_unsafe.into(), bytes]);
     told(values) + &zeros + &shown(listed(&out))
+}
+
+fn plan_answer(model: &[u8], output: usize) -> String {
+    let mut out = vec![DIRT; output];
+    let found = write_plan(model, &mut out);
+    told(found.map(|bytes| vec![bytes])) + &shown(listed(&out))
 }
 
 fn shown(bytes: String) -> String {

@@ -16,7 +16,7 @@ const LINE: [u8; 8] = [1, 1, 1, 1, 0, 0, 0, 0];
 const TWO: [u8; 15] = [1, 1, 1, 2, 1, 0, 0, 0, 0, 0, 0, 1, 0, 1, 1];
 
 /// The loop plan of document 01.
-const LOOP: [u8; 46] = [
+pub const LOOP: [u8; 46] = [
     1, 2, 2, 4, 4, 0, //
     0, 0, 0, 0, 0, 0, 0, 0, 0, 1, 0, 0, //
     0, 1, 2, 1, 1, 1, 1, //
@@ -32,7 +32,7 @@ const LOOP_TRAIL: [u8; 34] = [
 ];
 
 /// A smaller loop that only drift can leave: two clocks, ceiling 1.
-const SMALL_LOOP: [u8; 36] = [
+pub const SMALL_LOOP: [u8; 36] = [
     1, 2, 1, 3, 3, 1, //
     0, 0, 0, 0, 0, 0, 1, 0, 0, //
     0, 1, 1, 0, 1, 0, 1, //
@@ -75,9 +75,9 @@ fn graph_of(model: &[u8]) -> Graph {
 }
 
 /// Each number with as many bytes as it can have.
-fn padded(bytes: &[u8]) -> Vec<u8> {
+pub fn padded(bytes: &[u8]) -> Vec<u8> {
     let mut longest = Vec::new();
-    for number in numbers_of(bytes).expect("evidence spells numbers") {
+    for number in numbers_of(bytes).expect("plans and evidence spell numbers") {
         push_padded(&mut longest, number, NUMBER_BYTES);
     }
     longest
@@ -555,31 +555,35 @@ const OPERATIONS: [&str; 6] = [
     "harm",
 ];
 
-/// The plan is judged first, whatever the evidence is.
-fn refused_plans(text: &mut Text) {
-    let refused: [(&str, &[u8]); 8] = [
-        ("1: bytes end too soon", &LINE[..7]),
+/// A plan for each refusal of plans, with its words.
+pub fn refused() -> [(&'static str, Vec<u8>); 8] {
+    [
+        ("1: bytes end too soon", LINE[..7].to_vec()),
         (
             "2: a number with four bytes",
-            &[1, 1, 1, 1, 0, 0, 0, 128, 128, 128],
+            vec![1, 1, 1, 1, 0, 0, 0, 128, 128, 128],
         ),
-        ("3: five as the ceiling", &changed(LINE, 2, 5)),
-        ("4: a kind of 2", &changed(LINE, 6, 2)),
-        ("5: an edge to nowhere", &changed(TWO, 11, 2)),
-        ("6: a byte remains", &[1, 1, 1, 1, 0, 0, 0, 0, 0]),
+        ("3: five as the ceiling", changed(LINE, 2, 5).to_vec()),
+        ("4: a kind of 2", changed(LINE, 6, 2).to_vec()),
+        ("5: an edge to nowhere", changed(TWO, 11, 2).to_vec()),
+        ("6: a byte remains", vec![1, 1, 1, 1, 0, 0, 0, 0, 0]),
         (
             "7: a clock unreset",
-            &[1, 1, 1, 1, 1, 0, 0, 0, 0, 0, 0, 0, 1],
+            vec![1, 1, 1, 1, 1, 0, 0, 0, 0, 0, 0, 0, 1],
         ),
         (
             "8: more states than scratch",
-            &[1, 3, 4, 3, 0, 0, 0, 0, 0, 0, 0, 0, 0, 0, 0, 0, 0, 0],
+            vec![1, 3, 4, 3, 0, 0, 0, 0, 0, 0, 0, 0, 0, 0, 0, 0, 0, 0],
         ),
-    ];
-    for (name, model) in refused {
+    ]
+}
+
+/// The plan is judged first, whatever the evidence is.
+fn refused_plans(text: &mut Text) {
+    for (name, model) in refused() {
         text.plan(
             &format!("refused {name}"),
-            model,
+            &model,
             "No operation goes further.",
         );
         for operation in OPERATIONS {

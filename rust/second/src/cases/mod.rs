@@ -4,6 +4,7 @@
 mod answers;
 mod evidence;
 mod operations;
+mod plans;
 mod reading;
 pub mod rules;
 
@@ -28,6 +29,7 @@ pub fn cases() -> String {
     evidence::evidence(&mut text);
     reading::reading(&mut text);
     operations::operations(&mut text);
+    plans::plans(&mut text);
     text.lines
 }
 

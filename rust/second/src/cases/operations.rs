@@ -32,8 +32,11 @@ pub fn operations(text: &mut Text) {
             ring(text, clocks, ceiling);
         }
     }
-    let largest = bytes_of_text(LARGEST).expect("a plan as a list");
-    text.judged_with_drift("largest", &largest);
+    text.judged_with_drift("largest", &largest());
+}
+
+pub fn largest() -> Vec<u8> {
+    bytes_of_text(LARGEST).expect("a plan as a list")
 }
 
 /// One location without edges: S is the count of regions, and our sheet has

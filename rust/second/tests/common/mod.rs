@@ -2,7 +2,9 @@
 #![allow(dead_code)]
 
 use second::limits::MAX_STATES;
+use second::numbers::numbers_of;
 use second::program::OUTPUT;
+use second::Model;
 
 /// Enough scratch for every model.
 pub const ENOUGH: [usize; 4] = [MAX_STATES; 4];
@@ -28,6 +30,24 @@ pub const ROW: [u8; 8] = [1, 1, 1, 1, 0, 0, 0, 0];
 
 /// One clock, ceiling 1, two locations with an edge at 1 that keeps the clock.
 pub const TWO: [u8; 15] = [1, 1, 1, 2, 1, 0, 0, 0, 0, 0, 0, 1, 0, 1, 1];
+
+/// How many numbers spell a model.
+pub fn count_of_numbers(model: &Model) -> usize {
+    let (locations, edges) = (model.locations.len(), model.edges.len());
+    6 + locations * (1 + model.clocks) + edges * (3 + 2 * model.clocks)
+}
+
+/// Whether some stay field of an accepted model is M+1.
+pub fn has_stay_above_ceiling(model: &[u8]) -> bool {
+    let numbers = numbers_of(model).expect("an accepted model");
+    let [_, clocks, ceiling, locations, ..] = numbers[..] else {
+        panic!("an accepted model has a header");
+    };
+    let mut all = numbers[6..]
+        .chunks(1 + clocks as usize)
+        .take(locations as usize);
+    all.any(|location| location[1..].contains(&(ceiling + 1)))
+}
 
 pub fn evidence(model: &[u8]) -> Vec<u8> {
     let mut out = vec![0; OUTPUT];

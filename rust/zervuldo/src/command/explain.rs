@@ -5,9 +5,8 @@ use crate::args::{Arguments, Takes};
 use crate::files;
 use crate::outcome::{Failure, Outcome};
 use drift::Refusal;
-use plan::bytes::decode;
 use plan::explain::{about, refusal_words};
-use plan::input::{content_of, Content};
+use plan::input::content_of;
 
 pub const COMMAND: Command = Command {
     name: "explain",
@@ -30,12 +29,8 @@ fn run(arguments: &Arguments) -> Result<Outcome, Failure> {
     let mut words = refusal_words(number).unwrap_or_default();
     if let Some(file) = files.first() {
         let content = content_of(file, &files::read(file)?).map_err(Failure::refused)?;
-        let plan = match content {
-            Content::Plan(plan) => Ok(plan),
-            Content::Bytes(model) => decode(&model),
-        };
         let evidence = files.get(1).map(|file| check::read(file)).transpose()?;
-        words += &about(number, plan.as_ref(), evidence.as_deref());
+        words += &about(number, content.plan.as_ref(), evidence.as_deref());
     }
     Ok(Outcome::done(words))
 }

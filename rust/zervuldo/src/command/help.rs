@@ -29,21 +29,25 @@ const ABOUT: &str = "judge the timing of fire-alarm rings under drift";
 const PURPOSE: &str = "\
 Decides whether drift of the clocks, however slight, added up for ever, can \
 bring a ring into a forbidden location, and gives evidence that anyone can \
-check. Verdicts, evidence and its check, margins and the jumps before harm \
-are answers of a proved library; what is not proved is named so.";
+check. Verdicts, evidence and its check, margins, the jumps before harm and \
+the shortest forms of plans are answers of a proved library; what is not \
+proved is named so.";
 
 const FILES: &str = "\
-PLAN is a plan as text, as a list of numbers or as model bytes; EVIDENCE is \
-bytes or a list of numbers. Which of them is seen from the content. A dash \
-is standard input. Lines of a text plan may say: unit 20 ms, crystal 50 ppm, \
-bit rate 19200; options say it in their place.";
+PLAN, or OTHER, is a plan as text, as a list of numbers or as model bytes; \
+EVIDENCE is bytes or a list of numbers. Which of them is seen from the \
+content. A dash is standard input. Lines of a text plan may say: unit 20 ms, \
+crystal 50 ppm, bit rate 19200; options say it in their place.";
 
 const STATUSES: [(&str, &str); 4] = [
     (
         "0",
-        "safe; the evidence passes; or what was asked for is done",
+        "safe; the evidence passes; the plans are the same; or what was asked for is done",
     ),
-    ("1", "unsafe; or the evidence fails"),
+    (
+        "1",
+        "unsafe; the evidence fails; the plans differ; or a plan is not in its shortest form",
+    ),
     ("2", "a plan is refused, or its text has mistakes"),
     ("3", "wrong use, or a file or pipe that fails"),
 ];

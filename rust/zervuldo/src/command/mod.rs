@@ -2,6 +2,7 @@
 //! what it does.
 
 mod check;
+mod compare;
 mod completion;
 mod decode;
 mod draw;
@@ -10,6 +11,7 @@ mod explain;
 mod help;
 mod judge;
 mod report;
+mod shorten;
 mod words;
 
 use crate::args::{Arguments, Opt, Takes};
@@ -30,7 +32,7 @@ pub struct Command {
     run: fn(&Arguments) -> Result<Outcome, Failure>,
 }
 
-pub const COMMANDS: [&Command; 10] = [
+pub const COMMANDS: [&Command; 12] = [
     &judge::COMMAND,
     &check::COMMAND,
     &report::COMMAND,
@@ -38,6 +40,8 @@ pub const COMMANDS: [&Command; 10] = [
     &words::COMMAND,
     &encode::COMMAND,
     &decode::COMMAND,
+    &shorten::COMMAND,
+    &compare::COMMAND,
     &explain::COMMAND,
     &completion::COMMAND,
     &help::COMMAND,

@@ -1,9 +1,11 @@
 //! The command run as a program, and files for it.
 #![allow(dead_code)]
 
+use std::fs::OpenOptions;
 use std::io::Write;
 use std::path::{Path, PathBuf};
 use std::process::{Command, Output, Stdio};
+use zervuldo::outcome::Outcome;
 
 pub const GOOD: i32 = 0;
 pub const BAD: i32 = 1;
@@ -31,6 +33,41 @@ pub fn run_on(arguments: &[&str], input: &[u8]) -> Output {
     // A command that reads no input may be gone before all is written.
     let _ = child.stdin.take().unwrap().write_all(input);
     child.wait_with_output().unwrap()
+}
+
+/// The same without a program of its own, for many runs.
+pub fn outcome(arguments: &[&str]) -> Outcome {
+    let words: Vec<String> = arguments.iter().map(|word| word.to_string()).collect();
+    zervuldo::command::run(&words)
+}
+
+/// A command whose output goes to a full disk: it says so.
+pub fn onto_a_full_disk(arguments: &[&str]) {
+    let full = OpenOptions::new().write(true).open("/dev/full").unwrap();
+    let output = zervuldo()
+        .args(arguments)
+        .stdout(Stdio::from(full))
+        .output()
+        .unwrap();
+    assert_eq!(output.status.code(), Some(FAILED), "{arguments:?}");
+    let shown = text(output.stderr);
+    assert!(shown.contains("No space left on device"), "{shown}");
+}
+
+/// A command whose reader went away before it wrote: it ends with a failure.
+pub fn into_a_closed_pipe(arguments: &[&str]) {
+    let mut child = zervuldo()
+        .args(arguments)
+        .stdin(Stdio::piped())
+        .stdout(Stdio::piped())
+        .stderr(Stdio::piped())
+        .spawn()
+        .unwrap();
+    drop(child.stdout.take());
+    // It waits for its input, so that the reader is gone by then.
+    let plan = std::fs::read(plan("tiny.plan")).unwrap();
+    child.stdin.take().unwrap().write_all(&plan).unwrap();
+    assert_eq!(child.wait().unwrap().code(), Some(FAILED), "{arguments:?}");
 }
 
 fn text(bytes: Vec<u8>) -> String {

@@ -12,4 +12,5 @@ end-spec =
     (λ c. simp (ne-eqb _ _ (c .before .if1 .taken)) (c .refuse .ensures))
     (λ c κs. search needs)
     (λ c. simp (eq-eqb _ _ (c .before .before .before .if1 .left), lt-ltb _ _ (c .before .if2 .taken)) (c .refuse2 .ensures))
-    (λ c. simp (eq-eqb _ _ (c .before .before .before .if1 .left), le-ltb _ _ (c .before .if2 .left))))
+    (λ c κs. search needs)
+    (λ c. simp (eq-eqb _ _ (c .before .before .before .if1 .left), le-ltb _ _ (c .before .if2 .left), c .resolve-model .ensures)))

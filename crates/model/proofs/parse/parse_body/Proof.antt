@@ -1,8 +1,25 @@
 -- The calls, one after the other.
 use borrow.Author.Needs.{needs}
-use Rattle.model.specs.Parse.{parseBody}
+use Prim.Native.Nat.{ℕ, _≤_}
+use native.Mathlib.Omega.{arith}
+use mathlib.Core.Path.{_≡_}
+use mathlib.Core.List.{List}
+use Rattle.model.specs.declared.Model.{Model}
+use Rattle.model.specs.Each.{each}
+use Rattle.model.specs.declared.parse.State.{State}
+use Rattle.limits.specs.Limits.{maxClocks, maxLocations}
+use Rattle.model.specs.Parse.{going, blank, parseLocation, parseEdge, parseBody}
+use Rattle.model.proofs.Lawful.{body-ok}
 use Rattle.model.proofs.parse.parse_body.Statement.{statement}
 use Rattle.model.proofs.parse.parse_body.Tie as tie
+
+-- the model read has the clocks and locations of the header
+ends : (bs : List ℕ) (at n m l e st : ℕ) {b : Model} {t u : State}
+    → u ≡ each e (parseEdge bs n m l) t → t ≡ each l (parseLocation bs n m) (going at b) → b ≡ blank n m l e st
+    → n ≤ maxClocks → l ≤ maxLocations → (u .model .clocks ≤ maxClocks) × (u .model .locations ≤ maxLocations)
+ends bs at n m l e st p q r hn hl =
+    let k = body-ok bs n m l e st at in
+    rw (p, q, r) (omega (arith, k .clocks, k .locations))
 
 pub parse-body-spec : {M : Type 1} → statement M
 unfolding parseBody
@@ -12,6 +29,7 @@ parse-body-spec =
     (λ c κs. search needs)
     (λ c κs. search needs)
     (λ c κs. search needs)
-    (λ c κs. search needs)
+    (λ c κs.
+    ends _ _ _ _ _ _ _ (c .read-edges .ensures) (c .before .read-locations .ensures) (c .before .before .blank-model .ensures) (omega arith) (omega arith))
     (λ c. let c2 = c .before .before in
     simp (c .end .ensures, c .before .read-edges .ensures, c2 .read-locations .ensures, c2 .before .blank-model .ensures)))

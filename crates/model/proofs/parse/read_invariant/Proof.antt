@@ -1,4 +1,4 @@
--- Stopped before, refused now, or a value whose limit is stored.
+-- Stopped before, refused now, or a value that is stored.
 use borrow.Author.Needs.{needs}
 use borrow.Author.Tests.{eq-eqb, ne-eqb}
 use Rattle.model.specs.Parse.{invariantAt}
@@ -22,7 +22,6 @@ read-invariant-spec =
     (stop-law (c .stop .ensures) (c .before .enum-told .given .1)))
     (λ c. search needs)
     (λ c. search needs)
-    (λ c κs. search needs)
     (λ c. search needs)
-    (λ c. let c3 = c .before .before .before in let c5 = c3 .before .before in let c6 = c5 .before in
-    simp (c .limit .ensures, eq-eqb _ _ (c6 .if1 .left), ← (c5 .read-field .ensures), c3 .got .given .1)))
+    (λ c. let c2 = c .before .before in let c4 = c2 .before .before in let c5 = c4 .before in
+    simp (eq-eqb _ _ (c5 .if1 .left), ← (c4 .read-field .ensures), c2 .got .given .1)))

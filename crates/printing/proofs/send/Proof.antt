@@ -1,9 +1,9 @@
--- `evidence_bytes::send` meets its contract.
+-- `printing::send` meets its contract.
 use mathlib.Core.Path.{sym}
 use lib.Seq.{length-take-le}
 use borrow.Author.Needs.{needs}
-use Rattle.evidence_bytes.proofs.send.Statement.{statement}
-use Rattle.evidence_bytes.proofs.send.Tie as tie
+use Rattle.printing.proofs.send.Statement.{statement}
+use Rattle.printing.proofs.send.Tie as tie
 
 pub send-spec : {M : Type 1} → statement M
 send-spec =

@@ -1,8 +1,8 @@
 -- A test for each way out.
 use borrow.Author.Needs.{needs}
 use borrow.Author.Tests.{eq-eqb, ne-eqb}
-use Rattle.model.proofs.parse.limit.Statement.{statement}
-use Rattle.model.proofs.parse.limit.Tie as tie
+use Rattle.model.proofs.resolve.limit.Statement.{statement}
+use Rattle.model.proofs.resolve.limit.Tie as tie
 
 pub limit-spec : {M : Type 1} → statement M
 limit-spec =

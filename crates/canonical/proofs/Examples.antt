@@ -1,0 +1,32 @@
+-- Worked examples of the shortest plan, by computing.
+use Prim.Native.Nat.{ℕ}
+use mathlib.Core.Path.{_≡_, refl}
+use mathlib.Core.List.{List, [], _∷_}
+use Rattle.number.specs.Number.{readNumber, spell, spellAll}
+use Rattle.model.specs.Each.{each, gather}
+use Rattle.model.specs.Parse.{fieldAt, kindAt, invariantAt, endsAt, guardAt, resolved, parseBody, parseCounts, parseModel}
+use Rattle.model.specs.Cycle.{markEdge, roundOf, survivors, hasCycle, unreset}
+use Rattle.model.specs.Accept.{readModel}
+use Rattle.canonical.specs.Canonical.{numbersOf, planNumbers, shortestPlan}
+
+-- the loop plan
+plan : List ℕ
+plan =
+    1 ∷ 2 ∷ 2 ∷ 4 ∷ 4 ∷ 0
+    ∷ 0 ∷ 0 ∷ 0
+    ∷ 0 ∷ 0 ∷ 0
+    ∷ 0 ∷ 0 ∷ 0
+    ∷ 1 ∷ 0 ∷ 0
+    ∷ 0 ∷ 1 ∷ 2 ∷ 1 ∷ 1 ∷ 1 ∷ 1
+    ∷ 1 ∷ 2 ∷ 1 ∷ 0 ∷ 2 ∷ 0 ∷ 2
+    ∷ 2 ∷ 1 ∷ 2 ∷ 0 ∷ 2 ∷ 2 ∷ 2
+    ∷ 2 ∷ 3 ∷ 0 ∷ 0 ∷ 0 ∷ 2 ∷ 2 ∷ []
+
+-- a stay field of M+1 becomes 0; padding goes; a limit below the ceiling stays; the loop plan is its own shortest form
+shortest :
+    (shortestPlan (readModel (1 ∷ 1 ∷ 1 ∷ 1 ∷ 0 ∷ 0 ∷ 0 ∷ 2 ∷ [])) ≡ 1 ∷ 1 ∷ 1 ∷ 1 ∷ 0 ∷ 0 ∷ 0 ∷ 0 ∷ [])
+    × (shortestPlan (readModel (129 ∷ 128 ∷ 0 ∷ 1 ∷ 1 ∷ 129 ∷ 0 ∷ 0 ∷ 0 ∷ 0 ∷ 0 ∷ [])) ≡ 1 ∷ 1 ∷ 1 ∷ 1 ∷ 0 ∷ 0 ∷ 0 ∷ 0 ∷ [])
+    × (shortestPlan (readModel (1 ∷ 1 ∷ 2 ∷ 1 ∷ 0 ∷ 0 ∷ 1 ∷ 2 ∷ [])) ≡ 1 ∷ 1 ∷ 2 ∷ 1 ∷ 0 ∷ 0 ∷ 1 ∷ 2 ∷ [])
+    × (shortestPlan (readModel plan) ≡ plan)
+unfolding plan shortestPlan planNumbers numbersOf gather spellAll spell readModel parseModel parseCounts parseBody each kindAt invariantAt endsAt guardAt resolved fieldAt readNumber unreset hasCycle survivors roundOf markEdge
+shortest = (refl, refl, refl, refl)

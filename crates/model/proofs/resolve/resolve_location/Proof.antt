@@ -1,0 +1,34 @@
+-- After x turns the model is that of x rounds.
+use native.Mathlib.Omega.{arith}
+use Prim.Native.Nat.{ℕ, _≤_, _-_}
+use mathlib.Core.Path.{_≡_, _∙_}
+use Rattle.model.specs.declared.Model.{Model}
+use Rattle.model.specs.Model.{slot}
+use Rattle.model.specs.Parse.{withInvariant, meantAt}
+use Rattle.model.specs.Each.{each}
+use Rattle.model.proofs.Each.{each-none, each-more, each-done}
+use Rattle.model.proofs.resolve.resolve_location.Statement.{statement}
+use Rattle.model.proofs.resolve.resolve_location.Tie as tie
+
+abbrev turn : Model → ℕ → ℕ → Model → Model
+turn m l x z = withInvariant z (slot l x) (meantAt m l x)
+
+abbrev Inv-loop : tie.InvT-loop
+Inv-loop m l n u₀ x₀ u x = (x ≤ n) × (u ≡ each x (turn m l) u₀)
+
+abbrev μ-loop : tie.MeasureT-loop
+μ-loop m l n u₀ x₀ u x = n - x
+
+pub resolve-location-spec : {M : Type 1} → statement M
+resolve-location-spec =
+    tie.close
+    (tie.spec
+    Inv-loop
+    μ-loop
+    (λ c. omega arith)
+    (λ c. (omega arith, each-none _ _))
+    (λ c κs. omega arith)
+    (λ c. omega arith)
+    (λ c. omega arith)
+    (λ c. (omega arith, c .resolve-field .ensures ∙ each-more (turn (c .before .before .before .before .args .m) _) _ _ _ (c .before .before .loop .inv .1)))
+    (λ c. each-done (turn (c .before .before .before .args .m) _) _ _ _ _ (c .before .loop .inv .1) (omega arith) (omega arith)))

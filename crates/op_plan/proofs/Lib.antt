@@ -1,0 +1,2 @@
+-- The plan writer's ways.
+pub mod Plans

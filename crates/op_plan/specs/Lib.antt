@@ -1,0 +1,2 @@
+-- The plan writer.
+pub mod Plan
