@@ -13,7 +13,7 @@ pub mod Tight
 -- The bench's loop plan, both ways.
 pub mod LoopPlan
 -- Operations see bytes by their reading; what the programs take in is enough.
-pub mod Alike
+pub mod SameAnswers
 pub mod Input
 -- Request (a) of 02: plans redrawn short.
 pub mod Plans

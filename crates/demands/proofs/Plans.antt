@@ -12,19 +12,21 @@ use lib.Seq.{take-append-seam}
 use lib.Dec.{eqb}
 use borrow.Author.Tests.{eqb-true, eqb-false, eq-eqb, ne-eqb, lt-ltb, le-ltb}
 use Rattle.number.specs.Answer.{Answer, answer}
+use Rattle.number.specs.Number.{spellAll}
 use Rattle.spelling.specs.Calls.{bytesAnswer, bytesOutput}
 use Rattle.model.specs.declared.Reading.{Reading}
+use Rattle.model.specs.Model.{limitAt}
 use Rattle.model.specs.Cycle.{LeavesUnreset}
 use Rattle.model.specs.Accept.{readModel}
 use Rattle.model.proofs.Accepted.{refusal-bound}
-use Rattle.canonical.specs.Canonical.{SpellsPlan, shortestPlan}
+use Rattle.canonical.specs.Canonical.{numbersOf, SpellsPlan, stayNumbers, planNumbers, shortestPlan}
 use Rattle.canonical.specs.Same.{SameContent}
 use Rattle.canonical.proofs.Plans.{accept-law, accepted-whole}
-use Rattle.canonical.proofs.Shortest.{shortest-spells, reads-back, same-bytes, same-back, plan-shortest, no-longer}
+use Rattle.canonical.proofs.Shortest.{shortest-spells, reads-back, same-bytes, same-back, plan-shortest, no-longer, none-shorter}
 use Rattle.op_plan.specs.Plan.{planAnswer, planOutput}
-use Rattle.demands.specs.Alike.{Alike}
+use Rattle.demands.specs.SameAnswers.{SameAnswers}
 use Rattle.demands.specs.Told.{planWritten}
-use Rattle.demands.proofs.Alike.{alike}
+use Rattle.demands.proofs.SameAnswers.{same-answers}
 
 -- Which bytes are accepted, and as which model: just those that spell it, without a closed walk of edges that leaves a clock unreset.
 pub plan-accepted-law : (bytes : List ℕ) (r : Reading)
@@ -82,6 +84,12 @@ module _ (bytes out : List ℕ) where
     plan-is =
         ap₂ take count-is (plan-told plan-accepted enough .1) ∙ take-append-seam short (drop (length short) out)
 
+    -- M+1 takes a byte as 0 does, so being shortest does not decide between them: each limit at the ceiling is written as 0
+    pub plan-blanks : (stay : ℕ → ℕ → List ℕ) × (planWritten bytes out ≡ spellAll (numbersOf stay (readModel bytes)))
+        × ((l x : ℕ) → limitAt (readModel bytes .model) l x ≡ readModel bytes .model .ceiling → stay l x ≡ 0 ∷ [])
+    unfolding shortestPlan planNumbers
+    plan-blanks = (stayNumbers (readModel bytes), plan-is, λ l x e. simp (eq-eqb _ _ e) refl)
+
     -- the answer is how many bytes were written
     pub plan-length : getD (planAnswer bytes (length out) .values) 0 0 ≡ length (planWritten bytes out)
     plan-length = count-is ∙ ap length (sym plan-is)
@@ -99,12 +107,11 @@ module _ (bytes out : List ℕ) where
 
     pub plan-none-shorter : (cs : List ℕ) → readModel cs .refusal ≡ 0 → SameContent (readModel bytes) (readModel cs)
         → length (planWritten bytes out) ≤ length cs
-    plan-none-shorter cs e c =
-        subst (λ (l : List ℕ). length l ≤ length cs) (sym (plan-is ∙ same-bytes (readModel bytes) (readModel cs) c)) (no-longer cs e)
+    plan-none-shorter cs e c = subst (λ (l : List ℕ). length l ≤ length cs) (sym plan-is) (none-shorter bytes cs e c)
 
     -- verdict, marks, evidence, check and all that is left are those of the input
-    pub plan-alike : Alike (planWritten bytes out) bytes
-    plan-alike = alike (planWritten bytes out) bytes plan-reads
+    pub plan-answers : SameAnswers (planWritten bytes out) bytes
+    plan-answers = same-answers (planWritten bytes out) bytes plan-reads
 
 -- what is written is its own shortest form, for which an output of its length is enough
 pub plan-own : (bytes out out′ : List ℕ) → planAnswer bytes (length out) .number ≡ 0 → length (planWritten bytes out) ≤ length out′

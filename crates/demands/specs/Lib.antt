@@ -5,4 +5,4 @@ pub mod Tight
 -- What the theorems say of answers, marks, plans and slips.
 pub mod Told
 -- Bytes that no operation tells apart.
-pub mod Alike
+pub mod SameAnswers

@@ -25,7 +25,7 @@ use Rattle.op_plan.specs.Plan.{planAnswer, planOutput}
 use Rattle.op_margin.specs.Margin.{marginAnswer}
 use Rattle.op_sheet_margin.specs.SheetMargin.{boundValues, sheetMarginAnswer}
 use Rattle.op_harm.specs.Harm.{harmValues, harmAnswer}
-use Rattle.demands.specs.Alike.{Alike}
+use Rattle.demands.specs.SameAnswers.{SameAnswers}
 
 module _ (bs cs : List ℕ) (e : readModel bs ≡ readModel cs) where
   model : modelOf bs ≡ modelOf cs
@@ -39,9 +39,9 @@ module _ (bs cs : List ℕ) (e : readModel bs ≡ readModel cs) where
   seen : {A : Type 0} (f : ℕ → Model → A) (lent : List ℕ) → f (refusal bs lent) (modelOf bs) ≡ f (refusal cs lent) (modelOf cs)
   seen f lent = ap₂ f (refused lent) model
 
-  pub alike : Alike bs cs
+  pub same-answers : SameAnswers bs cs
   unfolding judged marksRefusal marked output checkAnswer writeAnswer writeOutput planAnswer planOutput marginAnswer sheetMarginAnswer harmAnswer left
-  alike =
+  same-answers =
       record {
         judge = seen (λ k m. answer k (verdict (systemOfModel m)));
         marks = λ lent room. seen (λ k m. answer (cond (eqb k 0) (short room m) k) (states m ∷ [])) lent;

@@ -13,7 +13,7 @@ use Rattle.op_sheet_margin.specs.SheetMargin.{sheetMarginAnswer}
 use Rattle.op_harm.specs.Harm.{harmAnswer}
 
 -- as models these bytes give the same answers, the same outputs and the same scratch
-pub record Alike (bs cs : List ℕ) : Type 0 where
+pub record SameAnswers (bs cs : List ℕ) : Type 0 where
   pub judge : (lent : List ℕ) → judged bs lent ≡ judged cs lent
   pub marks : (lent : List ℕ) (room : ℕ) → marked bs lent room ≡ marked cs lent room
   pub marks-output : (lent out : List ℕ) → output bs lent out ≡ output cs lent out
