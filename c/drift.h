@@ -54,7 +54,8 @@ enum drift_number {
     DRIFT_BAD_SHEET_NUMBER = 11,   /* sheet number above 2S-1, or not 0 where not allowed */
     DRIFT_SHEET_RULE_BROKEN = 12,  /* a sheet rule broken */
     DRIFT_BAD_STEP = 13,           /* a trail step doesn't replay */
-    DRIFT_ENDS_ORDINARY = 14       /* trail ends in an ordinary location */
+    DRIFT_ENDS_ORDINARY = 14,      /* trail ends in an ordinary location */
+    DRIFT_PADDED = 15              /* evidence number not in shortest form */
 };
 
 /* What passed the check of evidence. */
@@ -103,10 +104,11 @@ uint64_t drift_write_evidence(
     uint8_t *out, size_t out_length);
 
 /* Whether evidence from anywhere passes for the plan: its bytes spell, with
- * nothing after, a sheet that keeps the rules or a trail whose steps all
- * replay and which ends in a forbidden location. Refusals 1 to 8 of the
- * model, which leave the scratch untouched; then 1, 2, 6 and 10 to 14 of the
- * evidence, which leave its first S at zero.
+ * nothing after and each number in its shortest form, a sheet that keeps the
+ * rules or a trail whose steps all replay and which ends in a forbidden
+ * location. Refusals 1 to 8 of the model, which leave the scratch untouched;
+ * then 1, 2, 6 and 10 to 15 of the evidence, which leave its first S at zero.
+ * A padded model is read as ever.
  *
  * The answer: number + 2^8 * kind (1 sheet, 2 trail). See drift_kind_of. */
 uint64_t drift_check_evidence(
@@ -128,12 +130,14 @@ uint64_t drift_write_plan(
     const uint8_t *model, size_t model_length,
     uint8_t *out, size_t out_length);
 
-/* The number whose first byte stands at an offset, any offset. Refusals 1
- * and 2; a reader then stays where it is. At the end of the bytes it is 1.
+/* The number whose first byte stands at an offset, any offset, and whether its
+ * form was padded: evidence with such a number is refused by 15, this reader
+ * gives it. Refusals 1 and 2; a reader then stays where it is. At the end of
+ * the bytes it is 1.
  *
- * The answer: number + 2^8 * value + 2^32 * next, the offset after the
- * number, of which the word has room for the lower 32 bits. See drift_value,
- * drift_next. */
+ * The answer: number + 2^8 * value + 2^31 * padded (0 shortest, 1 padded) +
+ * 2^32 * next, the offset after the number, of which the word has room for the
+ * lower 32 bits. See drift_value, drift_is_padded, drift_next. */
 uint64_t drift_next_number(const uint8_t *bytes, size_t bytes_length, size_t at);
 
 /* Beyond 01: how slight a drift is harmless for ever if the plan is safe.
@@ -221,7 +225,13 @@ static inline unsigned drift_kind_of(uint64_t answer)
 /* Of drift_next_number: the number read, at most 2,097,151. */
 static inline uint32_t drift_value(uint64_t answer)
 {
-    return (uint32_t)(answer >> 8 & 0xffffff);
+    return (uint32_t)(answer >> 8 & 0x1fffff);
+}
+
+/* Of drift_next_number: whether fewer bytes spell that number too. */
+static inline int drift_is_padded(uint64_t answer)
+{
+    return (int)(answer >> 31 & 1);
 }
 
 /* Of drift_next_number at an offset: the offset after the number. It lies one

@@ -1,4 +1,4 @@
--- All cases that 01 marks P hold of the definitions: computed, in one test.
+-- All cases that 01 marks P hold of the definitions, and so do those of 02 (b) on padded evidence: computed, in one test.
 use mathlib.Core.Path.{_≡_, refl}
 use mathlib.Core.Bool.{true}
 use Rattle.theory.specs.Below.{tab, any, all, least, top}
@@ -15,6 +15,7 @@ use Rattle.theory.specs.Trail.{trailSteps, trailStates}
 use Rattle.theory.specs.Labels.{opens}
 use Rattle.theory.specs.Replay.{movesAlong, ourMoves}
 use Rattle.number.specs.Number.{readNumber, spell, spellAll}
+use Rattle.number.specs.Shortest.{readSpelled}
 use Rattle.model.specs.Each.{each}
 use Rattle.model.specs.Parse.{fieldAt, kindAt, invariantAt, endsAt, guardAt, resolved, parseBody, parseCounts, parseModel}
 use Rattle.model.specs.Cycle.{markEdge, roundOf, survivors, hasCycle, unreset}
@@ -31,8 +32,8 @@ use Rattle.evidence.specs.Ours.{ourSheetNumbers, ourTrailNumbers, ourEvidence}
 use Rattle.number.specs.Answer.{answer}
 use Rattle.call.specs.Call.{enough, refusal}
 use Rattle.op_check.specs.Check.{evidenceAnswer, checkAnswer}
-use Rattle.demands.specs.Bench.{samePoints, holds, bench}
+use Rattle.demands.specs.Bench.{samePoints, holds, bench, paddedBench}
 
-pub bench-holds : every holds bench ≡ true
-unfolding holds bench samePoints same regions lawful fits attains corners hasCorner face shares allowed guardHolds regionCount locationOf regionOf sameRegion indexIn numberOf allowedState stateAt timeFrom jumpFrom stepFrom beside flowTest systemOf labelledOf tab any all least top exact within dist greedy reach onClosedWalk step marks unsafe under chain height keeps number ourSheet trailSteps trailStates opens movesAlong ourMoves readEvidence readNumber spell spellAll each fieldAt kindAt invariantAt endsAt guardAt resolved parseBody parseCounts parseModel markEdge roundOf survivors hasCycle unreset readModel automatonOf numberKeeps numbersFrom sheetRefusal movesNumbers trailNumbers run flowTo labelAt walkStep closedWalk numbersAt faceTo touchTo trailStep trailAnswer ofKind checked ourSheetNumbers ourTrailNumbers ourEvidence answer enough refusal evidenceAnswer checkAnswer
-bench-holds = refl
+pub bench-holds : (every holds bench ≡ true) × (every holds paddedBench ≡ true)
+unfolding holds bench paddedBench samePoints same regions lawful fits attains corners hasCorner face shares allowed guardHolds regionCount locationOf regionOf sameRegion indexIn numberOf allowedState stateAt timeFrom jumpFrom stepFrom beside flowTest systemOf labelledOf tab any all least top exact within dist greedy reach onClosedWalk step marks unsafe under chain height keeps number ourSheet trailSteps trailStates opens movesAlong ourMoves readEvidence readSpelled readNumber spell spellAll each fieldAt kindAt invariantAt endsAt guardAt resolved parseBody parseCounts parseModel markEdge roundOf survivors hasCycle unreset readModel automatonOf numberKeeps numbersFrom sheetRefusal movesNumbers trailNumbers run flowTo labelAt walkStep closedWalk numbersAt faceTo touchTo trailStep trailAnswer ofKind checked ourSheetNumbers ourTrailNumbers ourEvidence answer enough refusal evidenceAnswer checkAnswer
+bench-holds = (refl, refl)

@@ -2,14 +2,14 @@
 -- every drift above 0 does harm in the end. How slight a drift is harmless, and how soon one does harm, is told by the drawing and by the evidence.
 --
 -- As in Demand3, `bytes` spell an accepted model and each scratch slice is long enough.
-use mathlib.Core.Path.{_≡_, refl, sym, ap, ap₂, subst, _∙_}
+use mathlib.Core.Path.{_≡_, refl, sym, ap, subst, _∙_}
 use mathlib.Core.Bool.{true, false, true≢false}
 use mathlib.Core.Logic.{_↔_}
 use mathlib.Core.List.{List, [], _∷_}
 use Prim.Native.Nat.{ℕ, _+_, _*_, _≤_, _<_}
 use native.Mathlib.Decide.{decLt}
 use native.Mathlib.Omega.{arith}
-use lib.ListN.{length, getD, drop}
+use lib.ListN.{length, getD}
 use Rattle.theory.specs.Below.{bit}
 use Rattle.theory.specs.Marked.{unsafe}
 use Rattle.theory.specs.Automaton.{Automaton, Edge, Run}
@@ -19,11 +19,8 @@ use Rattle.theory.proofs.Sheet.{is-sheet}
 use Rattle.theory.proofs.Replay.{passes-law}
 use Rattle.theory.proofs.Rounding.{steady-law}
 use Rattle.number.specs.Answer.{Answer, answer}
-use Rattle.number.specs.declared.Number.{Number}
-use Rattle.number.specs.declared.Number.the-variants.{Value, Refused}
-use Rattle.number.specs.Sequence.{SpelledBy}
 use Rattle.evidence_number.specs.Evidence.{SpellsEvidence}
-use Rattle.evidence_number.proofs.Reading.{spelled-some, spelled-first}
+use Rattle.evidence_number.proofs.Reading.{spelled-once}
 use Rattle.evidence.specs.Evidence.{TrailPasses}
 use Rattle.model.specs.declared.Model.{Model}
 use Rattle.model.specs.Model.{Lawful}
@@ -51,25 +48,6 @@ margin-done : (bytes : List ℕ) → readModel bytes .refusal ≡ 0
     → marginAnswer bytes ≡ record { number = 0; values = statesOf bytes ∷ margin (automatonOf (modelOf bytes)) (modelOf bytes .locations) ∷ [] }
 unfolding marginAnswer answer
 margin-done bytes e = simp e refl
-
--- bytes spell one list of numbers
-abbrev valueIn : Number → ℕ
-valueIn (Value v to) = v
-valueIn (Refused r) = 0
-
-abbrev endIn : Number → ℕ
-endIn (Value v to) = to
-endIn (Refused r) = 0
-
-spelled-once : (vs ws : List ℕ) {bs : List ℕ} → SpellsEvidence bs vs → SpellsEvidence bs ws → vs ≡ ws
-spelled-once [] [] s t = refl
-spelled-once [] (w ∷ ws) SpelledBy.none t = absurd (omega (arith, spelled-some t))
-spelled-once (v ∷ vs) [] s SpelledBy.none = absurd (omega (arith, spelled-some s))
-spelled-once (v ∷ vs) (w ∷ ws) {bs} s t =
-    let (to, e, s′) = spelled-first s in
-    let (end, f, t′) = spelled-first t in
-    let q = sym e ∙ f in
-    ap₂ _∷_ (ap valueIn q) (spelled-once vs ws s′ (subst (λ (i : ℕ). SpellsEvidence (drop i bs) ws) (sym (ap endIn q)) t′))
 
 -- without a touch the rate is 0
 no-touch-rate : (a : Automaton) {ms : List Move} → NoTouch ms → trailRate a ms ≡ 0

@@ -17,3 +17,6 @@ pub mod SameAnswers
 pub mod Input
 -- Request (a) of 02: plans redrawn short.
 pub mod Plans
+-- Request (b) of 02: no padding in evidence, and what padding does to an answer.
+pub mod Respelled
+pub mod Padding

@@ -14,7 +14,8 @@ use Rattle.theory.specs.Region.{regions, lawful, fits, attains, corners, hasCor
 use Rattle.theory.specs.RegionGraph.{allowed, guardHolds}
 use Rattle.theory.specs.StateGraph.{regionCount, locationOf, regionOf, sameRegion, indexIn, numberOf, allowedState, stateAt, timeFrom, jumpFrom, stepFrom, beside, flowTest, systemOf}
 use Rattle.theory.specs.Sheet.{keeps}
-use Rattle.number.specs.Number.{readNumber}
+use Rattle.number.specs.Number.{readNumber, spell}
+use Rattle.number.specs.Shortest.{readSpelled}
 use Rattle.model.specs.Each.{each}
 use Rattle.model.specs.Parse.{fieldAt, kindAt, invariantAt, endsAt, guardAt, resolved, parseBody, parseCounts, parseModel}
 use Rattle.model.specs.Cycle.{markEdge, roundOf, survivors, hasCycle, unreset}
@@ -29,11 +30,11 @@ use Rattle.demands.specs.Tight.{stairs, stairsSheet}
 use Rattle.evidence.specs.declared.Evidence.the-variants as evidence
 
 pub stairs-accepted : readModel stairs .refusal ≡ 0
-unfolding stairs stairsSheet checked ofKind sheetRefusal numbersFrom numberKeeps keeps readEvidence readNumber readModel parseModel parseCounts parseBody each kindAt invariantAt endsAt guardAt resolved fieldAt markEdge roundOf survivors hasCycle unreset automatonOf tab any all systemOf flowTest stepFrom timeFrom jumpFrom stateAt beside allowedState numberOf indexIn sameRegion regionOf locationOf regionCount regions allowed guardHolds lawful fits attains face shares corners hasCorner same
+unfolding stairs stairsSheet checked ofKind sheetRefusal numbersFrom numberKeeps keeps readEvidence readSpelled readNumber spell readModel parseModel parseCounts parseBody each kindAt invariantAt endsAt guardAt resolved fieldAt markEdge roundOf survivors hasCycle unreset automatonOf tab any all systemOf flowTest stepFrom timeFrom jumpFrom stateAt beside allowedState numberOf indexIn sameRegion regionOf locationOf regionCount regions allowed guardHolds lawful fits attains face shares corners hasCorner same
 stairs-accepted = refl
 
 pub stairs-pass : checked (modelOf stairs) stairsSheet ≡ evidence.Sheet
-unfolding stairs stairsSheet checked ofKind sheetRefusal numbersFrom numberKeeps keeps readEvidence readNumber readModel parseModel parseCounts parseBody each kindAt invariantAt endsAt guardAt resolved fieldAt markEdge roundOf survivors hasCycle unreset automatonOf tab any all systemOf flowTest stepFrom timeFrom jumpFrom stateAt beside allowedState numberOf indexIn sameRegion regionOf locationOf regionCount regions allowed guardHolds lawful fits attains face shares corners hasCorner same
+unfolding stairs stairsSheet checked ofKind sheetRefusal numbersFrom numberKeeps keeps readEvidence readSpelled readNumber spell readModel parseModel parseCounts parseBody each kindAt invariantAt endsAt guardAt resolved fieldAt markEdge roundOf survivors hasCycle unreset automatonOf tab any all systemOf flowTest stepFrom timeFrom jumpFrom stateAt beside allowedState numberOf indexIn sameRegion regionOf locationOf regionCount regions allowed guardHolds lawful fits attains face shares corners hasCorner same
 stairs-pass = refl
 
 -- ---- the run: N = D = 8, e = 1, and an eighth of a unit of waiting before each jump

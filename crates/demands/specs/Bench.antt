@@ -87,3 +87,22 @@ bench =
     ∷ check-gives loopBytes loopTrail 0 (2 ∷ [])
     ∷ check-gives loopBytes (take 33 loopTrail) 1 []
     ∷ []
+
+-- 02 (b): "15 when an evidence number isn't in shortest form, tested just after 2 for that number"
+unfoldable pub paddedBench : List Case
+paddedBench =
+    -- before 10, 11 and 13 of the same number; a region's numbers singly
+    check-gives (tiny 0) (131 ∷ 0 ∷ []) 15 []
+    ∷ check-gives (tiny 0) (1 ∷ 137 ∷ 0 ∷ []) 15 []
+    ∷ check-gives (tiny 0) (2 ∷ 1 ∷ 132 ∷ 0 ∷ []) 15 []
+    ∷ check-gives (tiny 0) (2 ∷ 1 ∷ 2 ∷ 137 ∷ 0 ∷ []) 15 []
+    -- after 1 and 2 of the same number, and after 11 and 13 of an earlier one
+    ∷ check-gives (tiny 0) (129 ∷ []) 1 []
+    ∷ check-gives (tiny 0) (129 ∷ 128 ∷ 128 ∷ []) 2 []
+    ∷ check-gives (tiny 0) (1 ∷ 9 ∷ 131 ∷ 0 ∷ []) 11 []
+    ∷ check-gives (tiny 0) (2 ∷ 1 ∷ 4 ∷ 128 ∷ 0 ∷ []) 13 []
+    -- bytes that remain are not read
+    ∷ check-gives (tiny 0) (1 ∷ 5 ∷ 3 ∷ 1 ∷ 128 ∷ 0 ∷ []) 6 []
+    -- "models may still be padded"
+    ∷ check-gives (129 ∷ 0 ∷ 1 ∷ 1 ∷ 1 ∷ 0 ∷ 0 ∷ 1 ∷ 0 ∷ []) (2 ∷ 0 ∷ []) 0 (2 ∷ [])
+    ∷ []

@@ -6,3 +6,5 @@ pub mod Tight
 pub mod Told
 -- Bytes that no operation tells apart.
 pub mod SameAnswers
+-- Request (b) of 02: the old rules, and evidence with its padding taken out.
+pub mod Padding

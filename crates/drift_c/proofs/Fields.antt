@@ -23,7 +23,9 @@ use Rattle.graph.proofs.Models.{system-laws}
 use Rattle.successors.proofs.Room.{states-limit}
 use Rattle.number.specs.declared.Number.{Number}
 use Rattle.number.specs.Number.{readNumber}
+use Rattle.number.specs.Shortest.{readSpelled, numberIn}
 use Rattle.number.proofs.Laws.{Sound, sound}
+use Rattle.number.proofs.Shortest.{number-in}
 use Rattle.evidence.specs.Ours.{ourEvidence}
 use Rattle.evidence_writer.specs.declared.Written.{Written}
 use Rattle.evidence_writer.specs.Written.{verdictWith, writtenFor}
@@ -46,6 +48,7 @@ use Rattle.op_marks.specs.Marks.{marksRefusal, marked}
 use Rattle.theory.proofs.Trail.{steps-verdict}
 use Rattle.drift_c.specs.Words.{value, judgeWord, countWord, checkWord, writeWord, numberWord, marginWord, harmShort, harmWord, harmOut, SmallValue, maxField, Fields, StatesFit, BytesFit, StoredFit}
 use Rattle.number.specs.declared.Number.the-variants as number
+use Rattle.number.specs.declared.Spelled.the-variants as spelled
 
 module _ (m : Model) (ok : Lawful m) where
   count-small : countOf (systemOfModel m) ≤ states m
@@ -166,16 +169,20 @@ plan-room bytes room =
 
 -- ---- numbers
 
-pub value-word-is : (w v to : ℕ) → w ≡ v * 256 + to % 4294967296 * 4294967296 → w ≡ numberWord (number.Value v to)
+pub shortest-word-is : (w v to : ℕ) → w ≡ 2 ^ 8 * v + 2 ^ 31 * 0 + 2 ^ 32 * (to % 2 ^ 32) → w ≡ numberWord (spelled.Shortest v to)
 unfolding numberWord
-value-word-is w v to e = omega (arith, e)
+shortest-word-is w v to e = omega (arith, e)
 
-pub number-refused-is : (r : ℕ) → r ≡ numberWord (number.Refused r)
+pub padded-word-is : (w v to : ℕ) → w ≡ 2 ^ 8 * v + 2 ^ 31 * 1 + 2 ^ 32 * (to % 2 ^ 32) → w ≡ numberWord (spelled.Padded v to)
+unfolding numberWord
+padded-word-is w v to e = omega (arith, e)
+
+pub number-refused-is : (r : ℕ) → r ≡ numberWord (spelled.Refused r)
 unfolding numberWord
 number-refused-is r = refl
 
-pub small-value : (bs : List ℕ) (at : ℕ) → SmallValue (readNumber bs at)
-small-value bs at = by (readNumber bs at) (sound bs at)
+pub small-value : (bs : List ℕ) (at : ℕ) → SmallValue (numberIn (readSpelled bs at))
+small-value bs at = rw (number-in bs at) (by (readNumber bs at) (sound bs at))
   where
     by : (n : Number) → Sound bs at n → SmallValue n
     by (number.Value v to) s = s .0

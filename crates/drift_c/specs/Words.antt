@@ -7,7 +7,9 @@ use lib.ListN.{length, getD, drop}
 use lib.Dec.{eqb, ltb, leb}
 use Rattle.number.specs.declared.Number.{Number}
 use Rattle.number.specs.declared.Number.the-variants.{Value, Refused}
+use Rattle.number.specs.declared.Spelled.{Spelled}
 use Rattle.number.specs.Answer.{Answer}
+use Rattle.number.specs.declared.Spelled.the-variants as spelled
 
 -- a value of an answer; 0 past the last
 abbrev pub value : Answer → ℕ → ℕ
@@ -44,10 +46,11 @@ harmWord a room = cond (harmShort a room) 9 (a .number + 2 ^ 8 * value a 0 + 2 ^
 unfoldable pub harmOut : Answer → List ℕ → List ℕ
 harmOut a out = cond (eqb (value a 0) 1 && leb 2 (length out)) (value a 2 ∷ value a 3 ∷ drop 2 out) out
 
--- number + 2^8 · value + 2^32 · next, the offset after the number, of which a word has room for the lower 32 bits
-unfoldable pub numberWord : Number → ℕ
-numberWord (Value v to) = 2 ^ 8 * v + 2 ^ 32 * (to % 2 ^ 32)
-numberWord (Refused r) = r
+-- number + 2^8 · value + 2^31 · padded (0 shortest, 1 padded) + 2^32 · next, the offset after the number, of which a word has room for the lower 32 bits
+unfoldable pub numberWord : Spelled → ℕ
+numberWord (spelled.Shortest v to) = 2 ^ 8 * v + 2 ^ 32 * (to % 2 ^ 32)
+numberWord (spelled.Padded v to) = 2 ^ 8 * v + 2 ^ 31 + 2 ^ 32 * (to % 2 ^ 32)
+numberWord (spelled.Refused r) = r
 
 -- a value below 2^21 fits its field
 abbrev pub SmallValue : Number → Type 0

@@ -1,7 +1,7 @@
 // The operations for callers in C and other languages: each slice is a pointer and a length, and the answer is one number made of fields.
 
 ghost use mathlib.Core.Path.{_≡_};
-ghost use Prim.Native.Nat.{_+_, _*_, _^_, _≤_};
+ghost use Prim.Native.Nat.{_+_, _*_, _%_, _^_, _<_, _≤_};
 ghost use lib.ListN.{length};
 ghost use Rattle.call.specs.Scratch.{lengths, ScratchLeft};
 ghost use Rattle.op_judge.specs.Judge.{judged, judgementAnswer};
@@ -12,7 +12,7 @@ ghost use Rattle.op_plan.specs.Plan.{planAnswer, planOutput};
 ghost use Rattle.op_sheet_margin.specs.SheetMargin.{sheetMarginAnswer, boundAnswer};
 ghost use Rattle.op_harm.specs.Harm.{harmAnswer, onsetAnswer};
 ghost use Rattle.op_write.specs.Write.{writeAnswer, writeOutput, writtenAnswer};
-ghost use Rattle.number.specs.Number.{readNumber};
+ghost use Rattle.number.specs.Shortest.{readSpelled, numberIn};
 ghost use Rattle.spelling.specs.Calls.{storedAnswer};
 ghost use Rattle.drift_c.specs.Words.{judgeWord, countWord, checkWord, writeWord, numberWord, marginWord, harmWord, harmOut, maxField, Fields, StatesFit, BytesFit, StoredFit, SmallValue};
 use drift::Bound;
@@ -25,7 +25,7 @@ use drift::Tolerance;
 use drift::Written;
 use limits::Word;
 use limits::refusal::OUTPUT_SHORT;
-use number::Number;
+use number::Spelled;
 
 // Where the fields of an answer begin; the number of a refusal stands before them.
 const AT_VERDICT: u64 = 1 << 8;
@@ -39,8 +39,10 @@ const SHEET: u64 = 1 << 8;
 
 const TRAIL: u64 = 2 << 8;
 
-// Where those of a number begin: its value, and the offset after it.
+// Where those of a number begin: its value, whether it is padded, and the offset after it.
 const AT_VALUE: u64 = 1 << 8;
+
+const AT_PADDED: u64 = 1 << 31;
 
 const AT_NEXT: u64 = 1 << 32;
 
@@ -146,13 +148,22 @@ fn put_harm(answer: Onset, out: &mut [u64]) -> u64
     }
 }
 
-fn number_word(answer: Number) -> u64
-    requires { ⌜ SmallValue answer ⌝ }
+// The fields of a number.
+fn value_word(value: u32, padded: u64, next: usize) -> u64
+    requires { ⌜ (value < 2 ^ 21) × (padded ≤ 1) ⌝ }
+    ensures { λ r. ⌜ r ≡ 2 ^ 8 * value + 2 ^ 31 * padded + 2 ^ 32 * (next % 2 ^ 32) ⌝ }
+{
+    value as u64 * AT_VALUE + padded * AT_PADDED + next as u64 % AT_NEXT * AT_NEXT
+}
+
+fn number_word(answer: Spelled) -> u64
+    requires { ⌜ SmallValue (numberIn answer) ⌝ }
     ensures { λ r. ⌜ r ≡ numberWord answer ⌝ }
 {
     match answer {
-        Number::Value(value, next) => value as u64 * AT_VALUE + next as u64 % AT_NEXT * AT_NEXT,
-        Number::Refused(number) => number as u64,
+        Spelled::Shortest(value, next) => value_word(value, 0, next),
+        Spelled::Padded(value, next) => value_word(value, 1, next),
+        Spelled::Refused(number) => number as u64,
     }
 }
 
@@ -314,12 +325,12 @@ pub extern "C" fn drift_write_plan(model: &[u8], out: &mut [u8]) -> u64
     stored_word(answer)
 }
 
-// number + 2^8 · value + 2^32 · next
+// number + 2^8 · value + 2^31 · padded (0 shortest, 1 padded) + 2^32 · next
 #[no_mangle]
 pub extern "C" fn drift_next_number(bytes: &[u8], at: usize) -> u64
-    ensures { λ r. ⌜ r ≡ numberWord (readNumber (now (bytes .entry)) at) ⌝ }
+    ensures { λ r. ⌜ r ≡ numberWord (readSpelled (now (bytes .entry)) at) ⌝ }
 {
-    let answer = number::read(bytes, at);
+    let answer = number::read_spelled(bytes, at);
     number_word(answer)
 }
 

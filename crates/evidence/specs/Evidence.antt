@@ -17,7 +17,8 @@ use Rattle.evidence.specs.declared.Evidence.the-variants as evidence
 
 -- ---- what is meant
 
--- 01: "A sheet is 1, then S numbers in state order"; "Evidence passes when its bytes spell, with nothing after, a sheet that keeps the rules"
+-- 01: "A sheet is 1, then S numbers in state order"; "Evidence passes when its bytes spell, with nothing after, a sheet that keeps the rules". By 02 (b)
+-- each number is in shortest form, which `SpellsEvidence` says.
 abbrev pub SheetPasses : Model → List ℕ → Type 0
 SheetPasses m bs = (l : List ℕ) × SpellsEvidence bs (1 ∷ l) × Sheet (systemOfModel m) l
 
@@ -31,7 +32,7 @@ TrailPasses m bs = (vs : List Move) × SpellsEvidence bs (2 ∷ trailNumbers (au
 abbrev pub found : Evidence → ℕ → Evidence
 found kind r = cond (eqb r 0) kind (evidence.Refused r)
 
--- "its first number by 1, 2, 10": what follows a first number
+-- "its first number by 1, 2, 10", and 15 just after 2: what follows a first number
 unfoldable pub ofKind : Model → List ℕ → ℕ → ℕ → Evidence
 ofKind m bs kind at =
     cond (eqb kind 1) (found evidence.Sheet (sheetAnswer m bs at))

@@ -141,7 +141,7 @@ fn check_kind(
     Evidence::Refused(NO_EVIDENCE)
 }
 
-// Whether the bytes are evidence that passes, and of which kind, or the refusal: 1, 2, 6 or 10 to 14. Into `sheet` go the numbers of a sheet.
+// Whether the bytes are evidence that passes, and of which kind, or the refusal: 1, 2, 6 or 10 to 15. Into `sheet` go the numbers of a sheet.
 pub fn check(m: Model, bytes: &[u8], sheet: &mut [Word]) -> Evidence
     requires { ⌜ Lawful m × (length (now sheet) ≡ states m) ⌝ }
     ensures { λ r. ⌜ r ≡ checked m (now (bytes .entry)) ⌝ }

@@ -1,4 +1,4 @@
-// 01's numbers of refusals ("What a call hands back and leaves").
+// 01's numbers of refusals ("What a call hands back and leaves"), and those of 02.
 
 pub const ENDS_TOO_SOON: u8 = 1;
 
@@ -29,3 +29,6 @@ pub const SHEET_RULE: u8 = 12;
 pub const TRAIL_STEP: u8 = 13;
 
 pub const TRAIL_END: u8 = 14;
+
+// 02 (b): a number of evidence is not in shortest form.
+pub const PADDED: u8 = 15;

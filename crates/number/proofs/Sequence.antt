@@ -2,17 +2,19 @@
 -- that reads just what a relation says, then for numbers whose padding is allowed.
 use Prim.Native.Nat.{ℕ, zero, suc, _+_, _-_, _^_, _≤_, _<_}
 use native.Mathlib.Omega.{arith}
-use mathlib.Core.Path.{_≡_, refl, sym, ap, subst, _∙_}
+use mathlib.Core.Path.{_≡_, refl, sym, ap, ap₂, subst, _∙_}
 use mathlib.Core.Logic.{_↔_, inl, inr, _⊎_, ⊎-elim}
-use mathlib.Core.List.{List, [], _∷_, _++_, List·Memᴰ, List·Memᴰ·head, List·Memᴰ·tail, List·Memᴰ·not-nil, List·Memᴰ·cases-cons, List·Memᴰ·append-cases}
+use mathlib.Core.List.{List, [], _∷_, _++_, List·Memᴰ, List·Memᴰ·head, List·Memᴰ·tail, List·Memᴰ·not-nil, List·Memᴰ·cases-cons, List·Memᴰ·append-cases, Memᴰ·append-left, Memᴰ·append-right}
 use lib.ListN.{length, take, drop, length-drop, length-append, drop-of-length-le}
 use lib.Seq.{drop-drop, drop-append-seam, take-append-add, getD-drop}
 use Rattle.number.specs.declared.Number.{Number}
 use Rattle.number.specs.declared.Number.the-variants.{Value, Refused}
-use Rattle.number.specs.Number.{Spells, readNumber, spell, spellAll}
-use Rattle.number.specs.Sequence.{SpelledBy, SpellsAll}
+use Rattle.number.specs.Number.{Spells, readNumber, onNumber, spell, spellAll}
+use Rattle.number.specs.Shortest.{AreBytes}
+use Rattle.number.specs.Sequence.{SpelledBy, SpellsAll, SpellsShortest}
 use Rattle.number.proofs.Laws.{Sound, sound, read-value, read-short, read-long, spells-some, spells-bound}
 use Rattle.number.proofs.Spelling.{spell-spells, spell-shortest}
+use Rattle.number.proofs.Shortest.{is-shortest, shortest-length, shortest-bytes, spell-is-shortest}
 
 -- numbers that fit three groups, list by list
 abbrev pub Fit : List ℕ → Type 0
@@ -35,6 +37,18 @@ fit-append vs f g v h = ⊎-elim (f v) (g v) (List·Memᴰ·append-cases vs h)
 abbrev pub moved : ℕ → Number → Number
 moved a (Value v to) = Value v (to - a)
 moved a (Refused r) = Refused r
+
+-- the value and the offset after it
+abbrev pub valueIn : Number → ℕ
+valueIn (Value v to) = v
+valueIn (Refused r) = 0
+
+abbrev pub endIn : Number → ℕ
+endIn (Value v to) = to
+endIn (Refused r) = 0
+
+pub not-value : {v to r : ℕ} → Value v to ≡ Refused r → ⊥
+not-value e = let z : _≡_ {A = ℕ} 1 0 = ap (λ (n : Number). onNumber n (λ v to. 1) (λ r. 0)) e in omega (arith, z)
 
 -- a function that reads just the spellings of a relation
 pub record Reading (read : List ℕ → ℕ → Number) (R : List ℕ → ℕ → Type 0) : Type 0 where
@@ -77,7 +91,7 @@ drop-take (b ∷ bs) (suc n) (suc i) h k =
     drop-take bs n i (omega arith) (omega arith) ∙ ap (λ j. take j (drop i bs)) (let z : n - i ≡ suc n - suc i = omega arith in z)
 
 -- what follows a number
-rest-at : (bs : List ℕ) (at : ℕ) (g rest : List ℕ) → drop at bs ≡ g ++ rest → drop (at + length g) bs ≡ rest
+pub rest-at : (bs : List ℕ) (at : ℕ) (g rest : List ℕ) → drop at bs ≡ g ++ rest → drop (at + length g) bs ≡ rest
 rest-at bs at g rest e = sym (drop-drop (length g) at bs) ∙ ap (drop (length g)) e ∙ drop-append-seam g rest
 
 module _ {read : List ℕ → ℕ → Number} {R : List ℕ → ℕ → Type 0} (L : Reading read R) where
@@ -145,6 +159,32 @@ module _ {read : List ℕ → ℕ → Number} {R : List ℕ → ℕ → Type 0} 
           subst (ReadsBy read bs at vs) z t,
     )
 
+  -- the first number, and the others from the offset after it on
+  pub spelled-first : {bs vs : List ℕ} {v : ℕ} → SpelledBy R bs (v ∷ vs) → (to : ℕ) × (read bs 0 ≡ Value v to) × SpelledBy R (drop to bs) vs
+  spelled-first {vs = vs} (SpelledBy.more {g = g} {bs = rest} {v = v} k s) = (
+    length g,
+    L .value _ 0 v (length g) .1 (g, rest, refl, k, omega arith),
+    subst (λ (l : List ℕ). SpelledBy R l vs) (sym (drop-append-seam g rest)) s,
+  )
+
+  pub first-spelled : (bs vs : List ℕ) (v to : ℕ) → read bs 0 ≡ Value v to → SpelledBy R (drop to bs) vs → SpelledBy R bs (v ∷ vs)
+  first-spelled bs vs v to e s =
+      let (g, rest, d, k, q) = L .value bs 0 v to .0 e in
+      let z : to ≡ length g = omega arith in
+      let t : drop to bs ≡ rest = ap (λ (n : ℕ). drop n bs) z ∙ (ap (drop (length g)) d ∙ drop-append-seam g rest) in
+      subst (λ (l : List ℕ). SpelledBy R l (v ∷ vs)) (sym d) (SpelledBy.more k (subst (λ (l : List ℕ). SpelledBy R l vs) t s))
+
+  -- bytes spell one list of numbers
+  pub spelled-once : {bs : List ℕ} (vs ws : List ℕ) → SpelledBy R bs vs → SpelledBy R bs ws → vs ≡ ws
+  spelled-once [] [] s t = refl
+  spelled-once [] (w ∷ ws) SpelledBy.none t = absurd (omega (arith, spelled-some t))
+  spelled-once (v ∷ vs) [] s SpelledBy.none = absurd (omega (arith, spelled-some s))
+  spelled-once {bs} (v ∷ vs) (w ∷ ws) s t =
+      let (i, e, s′) = spelled-first s in
+      let (j, f, t′) = spelled-first t in
+      let q = sym e ∙ f in
+      ap₂ _∷_ (ap valueIn q) (spelled-once vs ws s′ (subst (λ (k : ℕ). SpelledBy R (drop k bs) ws) (sym (ap endIn q)) t′))
+
   -- shortest forms spell their numbers
   pub shortest-spelled : (vs : List ℕ) → Fit vs → SpelledBy R (spellAll vs) vs
   unfolding spellAll
@@ -208,3 +248,56 @@ unfolding spellAll
 spelled-shortest SpelledBy.none = omega arith
 spelled-shortest (SpelledBy.more {g = g} {bs = bs} {vs = vs} {v = v} k s) =
     omega (arith, length-append (spell v) (spellAll vs), length-append g bs, spell-shortest k, spelled-shortest s)
+
+pub spelled-fit : {bs vs : List ℕ} → SpellsAll bs vs → Fit vs
+spelled-fit SpelledBy.none = fit-none
+spelled-fit (SpelledBy.more k s) = fit-more (spells-bound k) (spelled-fit s)
+
+-- ---- numbers in shortest form
+
+pub shortest-spells : {bs vs : List ℕ} → SpellsShortest bs vs → SpellsAll bs vs
+shortest-spells SpelledBy.none = SpelledBy.none
+shortest-spells (SpelledBy.more k s) = SpelledBy.more (k .spells) (shortest-spells s)
+
+shortest-total : {bs vs : List ℕ} → SpellsShortest bs vs → length bs ≡ length (spellAll vs)
+unfolding spellAll
+shortest-total SpelledBy.none = refl
+shortest-total (SpelledBy.more {g = g} {bs = bs} {vs = vs} {v = v} k s) =
+    omega (arith, length-append (spell v) (spellAll vs), length-append g bs, shortest-length k, shortest-total s)
+
+-- as few bytes in all: then each number has as few as it can
+total-shortest : {bs vs : List ℕ} → SpellsAll bs vs → length bs ≤ length (spellAll vs) → SpellsShortest bs vs
+unfolding spellAll
+total-shortest SpelledBy.none h = SpelledBy.none
+total-shortest (SpelledBy.more {g = g} {bs = bs} {vs = vs} {v = v} k s) h =
+    let a = length-append (spell v) (spellAll vs) in
+    let b = length-append g bs in
+    let c = spell-shortest k in
+    let d = spelled-shortest s in
+    SpelledBy.more (is-shortest k (omega (arith, h, a, b, c, d))) (total-shortest s (omega (arith, h, a, b, c, d)))
+
+-- each number in shortest form: the bytes spell the numbers, and no spelling of them has fewer
+pub shortest-sequence : {bs vs : List ℕ} → SpellsShortest bs vs ↔ (SpellsAll bs vs × ((cs : List ℕ) → SpellsAll cs vs → length bs ≤ length cs))
+shortest-sequence = (
+  λ s. (shortest-spells s, λ cs t. omega (arith, shortest-total s, spelled-shortest t)),
+  λ (s, least). total-shortest s (least _ (spelled _ (spelled-fit s))),
+)
+
+-- what we write is in shortest form, and of bytes nothing else is: the numbers determine them
+pub spell-all-shortest : (vs : List ℕ) → Fit vs → SpellsShortest (spellAll vs) vs
+unfolding spellAll
+spell-all-shortest [] h = SpelledBy.none
+spell-all-shortest (v ∷ vs) h =
+    SpelledBy.more (spell-is-shortest v (h v (List·Memᴰ·head refl))) (spell-all-shortest vs (λ w k. h w (List·Memᴰ·tail k)))
+
+pub one-spelling : {bs vs : List ℕ} → AreBytes bs → SpellsShortest bs vs ↔ ((bs ≡ spellAll vs) × Fit vs)
+unfolding spellAll
+one-spelling {vs = vs} bytes = (
+  λ s. (only bytes s, spelled-fit (shortest-spells s)),
+  λ (e, f). subst (λ (l : List ℕ). SpellsShortest l vs) (sym e) (spell-all-shortest vs f),
+)
+  where
+    only : {bs vs : List ℕ} → AreBytes bs → SpellsShortest bs vs → bs ≡ spellAll vs
+    only bytes SpelledBy.none = refl
+    only bytes (SpelledBy.more {g = g} {bs = bs} k s) =
+        ap₂ _++_ (shortest-bytes k (λ b m. bytes b (Memᴰ·append-left bs m))) (only (λ b m. bytes b (Memᴰ·append-right g m)) s)

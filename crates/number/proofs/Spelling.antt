@@ -24,7 +24,7 @@ unfolding spell
 spell-3 v h = simp (le-ltb v 128 (omega arith), le-ltb v 16384 h)
 
 -- what holds of each of the three shapes holds of the shortest form
-spell-ind : (P : List ℕ → Type 0) (v : ℕ)
+pub spell-ind : (P : List ℕ → Type 0) (v : ℕ)
     → (v < 128 → P (v ∷ []))
     → (128 ≤ v → v < 16384 → P ((v % 128 + 128) ∷ (v / 128) ∷ []))
     → (16384 ≤ v → P ((v % 128 + 128) ∷ (v / 128 % 128 + 128) ∷ (v / 16384) ∷ []))

@@ -4,12 +4,20 @@ ghost use Prim.Native.Nat.{_+_, _<_, _≤_, _^_};
 ghost use lib.ListN.{length};
 ghost use lib.Seq.{sets};
 ghost use Rattle.number.specs.Number.{readNumber, numberRefusal, spell};
+ghost use Rattle.number.specs.Shortest.{readSpelled};
 use limits::refusal::ENDS_TOO_SOON;
 use limits::refusal::THIRD_TOP_BIT;
 
 // What reading a number finds: its value and the offset after it, or the refusal, 1 or 2.
 pub enum Number {
     Value(u32, usize),
+    Refused(u8),
+}
+
+// The same, and whether the form was shortest.
+pub enum Spelled {
+    Shortest(u32, usize),
+    Padded(u32, usize),
     Refused(u8),
 }
 
@@ -64,6 +72,21 @@ pub fn shortest_length(v: u32) -> usize
         return 2;
     }
     3
+}
+
+// The number at an offset, told by its form.
+pub fn read_spelled(bytes: &[u8], at: usize) -> Spelled
+    ensures { λ r. ⌜ r ≡ readSpelled (now (bytes .entry)) at ⌝ }
+{
+    match read(bytes, at) {
+        Number::Value(v, next) => {
+            if next - at == shortest_length(v) {
+                return Spelled::Shortest(v, next);
+            }
+            Spelled::Padded(v, next)
+        }
+        Number::Refused(r) => Spelled::Refused(r),
+    }
 }
 
 // Stores the shortest form of a number at an offset, and gives the offset after it.

@@ -29,7 +29,7 @@ fn check_model(
 }
 
 // 01: whether the second bytes are evidence that passes for the plan that the first spell, and of which kind; or a refusal, 1 to 8 for the plan, 1, 2, 6
-// and 10 to 14 for the evidence.
+// and 10 to 15 for the evidence.
 pub fn check_evidence(
     bytes: &[u8],
     evidence: &[u8],

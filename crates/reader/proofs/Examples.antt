@@ -3,8 +3,9 @@ use Prim.Native.Nat.{ℕ}
 use mathlib.Core.Path.{_≡_, refl}
 use mathlib.Core.List.{[], _∷_}
 use base.Fml.{GName}
-use Rattle.number.specs.declared.Number.the-variants.{Value, Refused}
-use Rattle.number.specs.Number.{readNumber}
+use Rattle.number.specs.declared.Spelled.the-variants.{Shortest, Padded, Refused}
+use Rattle.number.specs.Number.{readNumber, spell}
+use Rattle.number.specs.Shortest.{readSpelled}
 use Rattle.reader.specs.declared.Reader.{Reader}
 use Rattle.reader.specs.Reader.{afterNumber}
 use Rattle.reader.specs.Calls.{answers}
@@ -13,6 +14,6 @@ use Rattle.reader.specs.Calls.{answers}
 over : ℕ × ℕ → GName → Reader
 over p γ = record { bytes = record { ptr = p; name = γ; now = 5 ∷ 133 ∷ 0 ∷ 128 ∷ [] }; at = 0 }
 
-fives : (p : ℕ × ℕ) (γ : GName) → answers 4 (over p γ) ≡ Value 5 1 ∷ Value 5 3 ∷ Refused 1 ∷ Refused 1 ∷ []
-unfolding answers afterNumber readNumber over
+fives : (p : ℕ × ℕ) (γ : GName) → answers 4 (over p γ) ≡ Shortest 5 1 ∷ Padded 5 3 ∷ Refused 1 ∷ Refused 1 ∷ []
+unfolding answers afterNumber readSpelled readNumber spell over
 fives p γ = refl

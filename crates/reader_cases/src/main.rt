@@ -1,16 +1,17 @@
 // Pieces of evidence on standard input, each after a byte that says how many bytes it has. For each its bytes, then a line for every number that a
-// reader gives, with the offset where the reader then stands; at the end the refusal, and, as the reader is asked again, the same refusal.
+// reader gives, with the word `padded` where its form was not shortest, and the offset where the reader then stands; at the end the refusal, and, as
+// the reader is asked again, the same refusal.
 ghost use mathlib.Core.Path.{_≡_};
 ghost use Prim.Native.Nat.{_<_, _≤_};
 ghost use lib.ListN.{length};
-ghost use Rattle.reader_cases.specs.Replied.{readerAt, replied};
+ghost use Rattle.reader_cases.specs.Replied.{readerAt, replied, isRefused};
 use libc::STDIN_FILENO;
 use libc::STDOUT_FILENO;
-use number::Number;
+use number::Spelled;
 
 // What a reader gives, and where it then stands.
 struct Reply {
-    number: Number,
+    number: Spelled,
     at: usize,
 }
 
@@ -28,12 +29,16 @@ fn next_at(bytes: &[u8], at: usize) -> Reply
     Reply { number, at: r.at }
 }
 
-fn show_number(found: Number) {
+fn show_number(found: Spelled) {
     match found {
-        Number::Value(value, _) => {
+        Spelled::Shortest(value, _) => {
             io::print_decimal(STDOUT_FILENO, value as u64);
         }
-        Number::Refused(refusal) => {
+        Spelled::Padded(value, _) => {
+            io::print_decimal(STDOUT_FILENO, value as u64);
+            say(b" padded");
+        }
+        Spelled::Refused(refusal) => {
             say(b"refused ");
             io::print_decimal(STDOUT_FILENO, refusal as u64);
         }
@@ -53,6 +58,16 @@ fn ask(bytes: &[u8], at: usize) -> Reply
     reply
 }
 
+fn is_refused(found: Spelled) -> bool
+    ensures { λ b. ⌜ b ≡ isRefused found ⌝ }
+{
+    match found {
+        Spelled::Shortest(_, _) => false,
+        Spelled::Padded(_, _) => false,
+        Spelled::Refused(_) => true,
+    }
+}
+
 // Asks up to the first refusal, and once more.
 fn ask_all(bytes: &[u8]) {
     let mut at = 0;
@@ -60,9 +75,9 @@ fn ask_all(bytes: &[u8]) {
         let reply = ask(bytes, at);
         let number = reply.number;
         at = reply.at;
-        let Number::Value(_, _) = number else {
+        if is_refused(number) {
             break;
-        };
+        }
     }
     ask(bytes, at);
 }

@@ -1,15 +1,16 @@
 -- Answers of trails on 01's bench, by computing.
-use Prim.Native.Nat.{ℕ}
+use Prim.Native.Nat.{ℕ, suc, _+_}
 use mathlib.Core.Path.{_≡_, refl}
 use mathlib.Core.List.{List, [], _∷_, _++_, map}
-use lib.ListN.{take}
+use lib.ListN.{getD, take, drop}
 use Rattle.theory.specs.Below.{tab}
 use Rattle.theory.specs.Lists.{same}
 use Rattle.theory.specs.Region.{regions, lawful, fits, attains, corners, hasCorner, face, shares}
 use Rattle.theory.specs.RegionGraph.{allowed, guardHolds}
 use Rattle.theory.specs.Labels.{opens}
 use Rattle.theory.specs.StateGraph.{regionCount, locationOf, regionOf, sameRegion, indexIn, numberOf, allowedState, stateAt, timeFrom, jumpFrom, stepFrom, beside, systemOf, labelledOf}
-use Rattle.number.specs.Number.{readNumber}
+use Rattle.number.specs.Number.{readNumber, spell}
+use Rattle.number.specs.Shortest.{readSpelled}
 use Rattle.evidence_number.specs.Evidence.{readEvidence}
 use Rattle.trail_numbers.specs.Numbers.{labelAt, numbersAt}
 use Rattle.model.specs.Each.{each}
@@ -71,9 +72,23 @@ cases =
     ∷ (2 ∷ 1 ∷ 3 ∷ 0 ∷ 0 ∷ 0 ∷ 0 ∷ 5 ∷ 0 ∷ [])
     ∷ (2 ∷ 1 ∷ 3 ∷ 0 ∷ 0 ∷ 0 ∷ 0 ∷ 1 ∷ 0 ∷ []) ∷ []
 
+-- the trail with one number padded, all of which are below 128
+padded : ℕ → List ℕ
+padded i = take i trail ++ ((getD trail i 0 + 128) ∷ 0 ∷ drop (suc i) trail)
+
+-- its count, the first kind, an edge, a region's first and last number, the walk's count, a kind and an edge in the walk, the last edge; in bytes that
+-- remain; a kind 4; a region that then breaks off
+unpaddedOnly : List (List ℕ)
+unpaddedOnly =
+    map padded (1 ∷ 2 ∷ 5 ∷ 10 ∷ 13 ∷ 14 ∷ 17 ∷ 18 ∷ 33 ∷ [])
+    ++ ((trail ++ (128 ∷ 0 ∷ []))
+    ∷ (2 ∷ 1 ∷ 132 ∷ 0 ∷ [])
+    ∷ (2 ∷ 1 ∷ 2 ∷ 137 ∷ 0 ∷ []) ∷ [])
+
 bench :
     (answers (line 1) ((2 ∷ 0 ∷ []) ∷ []) ≡ 0 ∷ [])
     × (answers (line 0) ((2 ∷ 0 ∷ []) ∷ (2 ∷ 1 ∷ 3 ∷ 1 ∷ 0 ∷ []) ∷ []) ≡ 14 ∷ 13 ∷ [])
     × (answers loop cases ≡ 0 ∷ 1 ∷ 14 ∷ 6 ∷ 2 ∷ 13 ∷ 13 ∷ 13 ∷ 13 ∷ 13 ∷ 14 ∷ 13 ∷ 1 ∷ 13 ∷ 13 ∷ 13 ∷ 1 ∷ 13 ∷ [])
-unfolding line loop trail cases trailAnswer trailStep run flowTo labelAt walkStep closedWalk numbersAt faceTo touchTo readEvidence readNumber parseModel parseCounts parseBody each kindAt invariantAt endsAt guardAt resolved fieldAt automatonOf tab systemOf labelledOf opens stepFrom timeFrom jumpFrom stateAt beside allowedState numberOf indexIn sameRegion regionOf locationOf regionCount regions allowed guardHolds lawful fits attains face shares corners hasCorner same
-bench = (refl, refl, refl)
+    × (answers loop unpaddedOnly ≡ 15 ∷ 15 ∷ 15 ∷ 15 ∷ 15 ∷ 15 ∷ 15 ∷ 15 ∷ 15 ∷ 6 ∷ 15 ∷ 15 ∷ [])
+unfolding line loop trail cases padded unpaddedOnly trailAnswer trailStep run flowTo labelAt walkStep closedWalk numbersAt faceTo touchTo readEvidence readSpelled readNumber spell parseModel parseCounts parseBody each kindAt invariantAt endsAt guardAt resolved fieldAt automatonOf tab systemOf labelledOf opens stepFrom timeFrom jumpFrom stateAt beside allowedState numberOf indexIn sameRegion regionOf locationOf regionCount regions allowed guardHolds lawful fits attains face shares corners hasCorner same
+bench = (refl, refl, refl, refl)

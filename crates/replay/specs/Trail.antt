@@ -1,5 +1,5 @@
 -- The answer of a trail: "trail numbers and steps in order by 1, 2, 13, then 6, 14. 13 comes as soon as a bad kind, edge or count is read, or
--- the last number of a bad region; for a walk that doesn't close, after its last step." p, q are states; `at` is an offset.
+-- the last number of a bad region; for a walk that doesn't close, after its last step." 02 (b) has 15 just after 2. p, q are states; `at` is an offset.
 use Prim.Native.Nat.{ℕ, zero, suc}
 use mathlib.Core.Bool.{cond, _&&_}
 use mathlib.Core.List.{List}
@@ -46,7 +46,7 @@ closedWalk m bs q at =
 
 -- ---- face and touch
 
--- "w1..wn, r1..rn"; its single numbers are judged by 1 and 2 only
+-- "w1..wn, r1..rn"; its single numbers are judged by 1, 2 and 15 only
 abbrev pub onRegion : {A : Type 0} → ℕ → List ℕ → ℕ → (Region → ℕ → A) → (ℕ → A) → A
 onRegion n bs at go stop =
     onNumbers (numbersAt bs n at) (λ ws to.

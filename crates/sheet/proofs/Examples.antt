@@ -8,7 +8,8 @@ use Rattle.theory.specs.Region.{fits, attains, lawful, corners, hasCorner, face
 use Rattle.theory.specs.RegionGraph.{allowed, guardHolds}
 use Rattle.theory.specs.StateGraph.{regionCount, locationOf, regionOf, sameRegion, indexIn, numberOf, allowedState, stateAt, timeFrom, jumpFrom, stepFrom, beside, flowTest, systemOf}
 use Rattle.theory.specs.Sheet.{keeps}
-use Rattle.number.specs.Number.{readNumber}
+use Rattle.number.specs.Number.{readNumber, spell}
+use Rattle.number.specs.Shortest.{readSpelled}
 use Rattle.evidence_number.specs.Evidence.{readEvidence}
 use Rattle.model.specs.Each.{each}
 use Rattle.model.specs.Parse.{fieldAt, kindAt, invariantAt, endsAt, guardAt, resolved, parseBody, parseCounts, parseModel}
@@ -26,8 +27,12 @@ cases :
     -- "model 1,1,1,1,0,0,0,0 has sheet 1,5,3,1"
     (answers (1 ∷ 1 ∷ 1 ∷ 1 ∷ 0 ∷ 0 ∷ 0 ∷ 0 ∷ [])
     ((1 ∷ 5 ∷ 3 ∷ 1 ∷ [])
-    -- zero padding
-    ∷ (1 ∷ 133 ∷ 128 ∷ 0 ∷ 3 ∷ 129 ∷ 0 ∷ [])
+    -- padded: its first number, its last; and above 2S-1 as well; after a number above it; in bytes that remain, which are not read
+    ∷ (1 ∷ 133 ∷ 128 ∷ 0 ∷ 3 ∷ 1 ∷ [])
+    ∷ (1 ∷ 5 ∷ 3 ∷ 129 ∷ 0 ∷ [])
+    ∷ (1 ∷ 137 ∷ 0 ∷ [])
+    ∷ (1 ∷ 9 ∷ 131 ∷ 0 ∷ [])
+    ∷ (1 ∷ 5 ∷ 3 ∷ 1 ∷ 128 ∷ 0 ∷ [])
     -- the bytes end too soon
     ∷ (1 ∷ 5 ∷ 3 ∷ [])
     -- a third byte with its top bit set
@@ -41,7 +46,7 @@ cases :
     ∷ (1 ∷ 4 ∷ 3 ∷ 1 ∷ [])
     ∷ (1 ∷ 5 ∷ 3 ∷ 0 ∷ [])
     ∷ (1 ∷ 3 ∷ 5 ∷ 1 ∷ []) ∷ [])
-    ≡ 0 ∷ 0 ∷ 1 ∷ 2 ∷ 11 ∷ 11 ∷ 6 ∷ 12 ∷ 12 ∷ 12 ∷ [])
+    ≡ 0 ∷ 15 ∷ 15 ∷ 15 ∷ 11 ∷ 6 ∷ 1 ∷ 2 ∷ 11 ∷ 11 ∷ 6 ∷ 12 ∷ 12 ∷ 12 ∷ [])
     -- with kind 1 no sheet passes
     × (answers (1 ∷ 1 ∷ 1 ∷ 1 ∷ 0 ∷ 0 ∷ 1 ∷ 0 ∷ [])
     ((1 ∷ 5 ∷ 3 ∷ 1 ∷ []) ∷ [])
@@ -60,5 +65,5 @@ cases :
     ∷ (1 ∷ 7 ∷ 5 ∷ 3 ∷ 0 ∷ 0 ∷ 1 ∷ [])
     ∷ (1 ∷ 7 ∷ 5 ∷ 3 ∷ 4 ∷ 3 ∷ 1 ∷ []) ∷ [])
     ≡ 0 ∷ 0 ∷ 12 ∷ 12 ∷ [])
-unfolding sheetRefusal numbersFrom numberKeeps readEvidence readNumber keeps all any tab same systemOf automatonOf flowTest beside stepFrom timeFrom jumpFrom stateAt numberOf indexIn sameRegion allowedState locationOf regionOf regionCount allowed guardHolds regions lawful fits attains face shares hasCorner corners readModel parseModel parseCounts parseBody each kindAt invariantAt endsAt guardAt resolved fieldAt unreset hasCycle survivors roundOf markEdge
+unfolding sheetRefusal numbersFrom numberKeeps readEvidence readSpelled readNumber spell keeps all any tab same systemOf automatonOf flowTest beside stepFrom timeFrom jumpFrom stateAt numberOf indexIn sameRegion allowedState locationOf regionOf regionCount allowed guardHolds regions lawful fits attains face shares hasCorner corners readModel parseModel parseCounts parseBody each kindAt invariantAt endsAt guardAt resolved fieldAt unreset hasCycle survivors roundOf markEdge
 cases = (refl, refl, refl, refl)

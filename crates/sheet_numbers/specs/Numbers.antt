@@ -12,7 +12,7 @@ use Rattle.evidence_number.specs.Numbers.{Numbers, got, refused, after}
 use Rattle.sheet_numbers.specs.declared.Extent.{Extent}
 use Rattle.sheet_numbers.specs.declared.Extent.the-variants.{End, Refused}
 
--- ---- "sheet numbers in order by 1, 2, 11"
+-- ---- "sheet numbers in order by 1, 2, 11", and 15 just after 2
 
 -- not 11, "sheet number above 2S-1, or not 0 where not allowed"
 unfoldable pub numberKeeps : Bool → ℕ → ℕ → Bool

@@ -1,4 +1,4 @@
--- Numbers of a trail, each judged by 1 and 2 as it is read; `at` is an offset.
+-- Numbers of a trail, each judged by 1, 2 and 15 as it is read; `at` is an offset.
 use Prim.Native.Nat.{ℕ, zero, suc}
 use mathlib.Core.Bool.{cond}
 use mathlib.Core.List.{List, [], _∷_}

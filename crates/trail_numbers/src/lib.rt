@@ -1,4 +1,4 @@
-// The numbers of a trail's steps, each judged by 1 and 2 as it is read.
+// The numbers of a trail's steps, each judged by 1, 2 and 15 as it is read.
 ghost use mathlib.Core.Path.{_≡_};
 ghost use Rattle.region.specs.Limits.{Clocks};
 ghost use Rattle.trail_numbers.specs.Numbers.{labelAt, numbersAt};

@@ -156,13 +156,17 @@ pub fn numbers_alike(bytes: &[u8]) -> Result<(), String> {
     let mut numbers = drift::Numbers::new(bytes);
     let mut place = 0;
     loop {
-        let wanted = second::number_at(bytes, place);
-        let next = wanted.map_or(place, |(_, next)| next);
+        let wanted = second::spelled_at(bytes, place)
+            .map(|number| (number.value, number.next, number.padded));
+        let next = wanted.map_or(place, |(_, next, _)| next);
         // The second time at a refusal tells whether it stays.
         for _ in 0..if wanted.is_ok() { 1 } else { 2 } {
-            let number = numbers.number().map_err(drift::Refusal::number);
+            let number = numbers
+                .spelled()
+                .map(|number| (number.value, number.next, number.padded))
+                .map_err(drift::Refusal::number);
             let got = (number, numbers.place());
-            if (wanted.map(|(value, _)| value), next) != got {
+            if (wanted, next) != got {
                 return Err(format!("number at {place}: wanted {wanted:?}, got {got:?}"));
             }
         }

@@ -106,8 +106,14 @@ fn push_damaged(
     for (_, evidence) in passing {
         pieces.push(("other damaged", damage(evidence)));
     }
-    // Padding is no damage; a level loop is what the sheet rules must find.
-    for (label, kind) in [("padded", "pad"), ("level", "equal"), ("raised", "raise")] {
+    // A level loop is what the sheet rules must find.
+    for (label, kind) in [
+        ("padded", "pad"),
+        ("padded", "pad-many"),
+        ("padded and damaged", "pad-order"),
+        ("level", "equal"),
+        ("raised", "raise"),
+    ] {
         let changed = mutate_as(random.bits(), kind, model, ours);
         pieces.extend(changed.map(|bytes| (label, bytes)));
     }

@@ -76,7 +76,9 @@ pub const MARGIN: Range<u32> = 40..64;
 /// The bytes written, of evidence or of a plan.
 pub const WRITTEN: Range<u32> = 16..64;
 /// The number that was read.
-pub const VALUE: Range<u32> = 8..32;
+pub const VALUE: Range<u32> = 8..29;
+/// 1 if its form was padded, 0 if shortest.
+pub const PADDED: Range<u32> = 31..32;
 /// The lower 32 bits of the offset after it.
 pub const NEXT: Range<u32> = 32..64;
 

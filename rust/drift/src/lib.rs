@@ -12,7 +12,7 @@ mod tests;
 
 pub use boundary::Word;
 pub use buffers::{Buffers, Scratch, MOST_STATES};
-pub use numbers::{next_number, Numbers};
+pub use numbers::{next_number, Numbers, Spelled};
 pub use refusal::{NoRefusal, Refusal};
 
 use boundary::*;

@@ -1,15 +1,30 @@
 //! Numbers read one by one from lent bytes.
 
-use crate::boundary::{accepted, drift_next_number, field, NEXT, VALUE};
+use crate::boundary::{accepted, drift_next_number, field, NEXT, PADDED, VALUE};
 use crate::Refusal;
 
-/// The number that begins at an offset, and the offset after it; refusal 1
-/// or 2 where there is none.
-pub fn next_number(bytes: &[u8], at: usize) -> Result<(u32, usize), Refusal> {
+/// A number that was read, and its form.
+#[derive(Clone, Copy, Debug, PartialEq, Eq)]
+pub struct Spelled {
+    pub value: u32,
+    /// The offset after its last byte.
+    pub next: usize,
+    /// Whether fewer bytes spell it too. A plan may have such a number,
+    /// evidence is refused for it.
+    pub padded: bool,
+}
+
+/// The number that begins at an offset, padded or not; refusal 1 or 2 where
+/// there is none.
+pub fn next_number(bytes: &[u8], at: usize) -> Result<Spelled, Refusal> {
     let answer = accepted(drift_next_number(bytes, at))?;
     // It lies one to three bytes on, which the lower 32 bits tell.
     let length = (field(answer, NEXT) as u32).wrapping_sub(at as u32);
-    Ok((field(answer, VALUE) as u32, at + length as usize))
+    Ok(Spelled {
+        value: field(answer, VALUE) as u32,
+        next: at + length as usize,
+        padded: field(answer, PADDED) == 1,
+    })
 }
 
 /// A reader over lent bytes. It is no `Iterator`, since it does not end: past
@@ -25,12 +40,17 @@ impl<'a> Numbers<'a> {
         Numbers { bytes, at: 0 }
     }
 
-    /// The next number, after which the reader then stands. A refusal, 1 or
-    /// 2, leaves it at that number's first byte.
+    /// The next number with its form, after which the reader then stands. A
+    /// refusal, 1 or 2, leaves it at that number's first byte.
+    pub fn spelled(&mut self) -> Result<Spelled, Refusal> {
+        let number = next_number(self.bytes, self.at)?;
+        self.at = number.next;
+        Ok(number)
+    }
+
+    /// The next number, in any form.
     pub fn number(&mut self) -> Result<u32, Refusal> {
-        let (value, next) = next_number(self.bytes, self.at)?;
-        self.at = next;
-        Ok(value)
+        self.spelled().map(|number| number.value)
     }
 
     /// The offset of the next number.
@@ -51,11 +71,26 @@ mod tests {
     use Refusal::{EndsTooSoon, NumberTooLong};
 
     #[test]
-    fn padding_is_allowed() {
-        assert_eq!(next_number(&[5], 0), Ok((5, 1)));
-        assert_eq!(next_number(&[133, 0], 0), Ok((5, 2)));
-        assert_eq!(next_number(&[133, 128, 0], 0), Ok((5, 3)));
-        assert_eq!(next_number(&[9, 255, 255, 127], 1), Ok(((1 << 21) - 1, 4)));
+    fn padding_is_told() {
+        let largest = (1 << 21) - 1;
+        for (bytes, value, padded) in [
+            (&[9, 5][..], 5, false),
+            (&[9, 133, 0], 5, true),
+            (&[9, 133, 128, 0], 5, true),
+            (&[9, 0], 0, false),
+            (&[9, 128, 0], 0, true),
+            (&[9, 128, 1], 128, false),
+            (&[9, 128, 129, 0], 128, true),
+            (&[9, 255, 255, 127], largest, false),
+        ] {
+            let next = bytes.len();
+            let number = Spelled {
+                value,
+                next,
+                padded,
+            };
+            assert_eq!(next_number(bytes, 1), Ok(number));
+        }
     }
 
     #[test]
@@ -71,9 +106,10 @@ mod tests {
     #[test]
     fn numbers_one_by_one() {
         let mut numbers = Numbers::new(&[7, 133, 0, 255, 255, 127]);
-        for (value, place) in [(7, 1), (5, 3), ((1 << 21) - 1, 6)] {
+        for (value, place, padded) in [(7, 1, false), (5, 3, true), ((1 << 21) - 1, 6, false)] {
             assert!(!numbers.at_end());
-            assert_eq!(numbers.number(), Ok(value));
+            assert_eq!(numbers.clone().number(), Ok(value));
+            assert_eq!(numbers.spelled().map(|number| number.padded), Ok(padded));
             assert_eq!(numbers.place(), place);
         }
         assert!(numbers.at_end());

@@ -3,7 +3,7 @@
 use std::error::Error;
 use std::fmt;
 
-/// A refusal of document 01, by its number there.
+/// A refusal of document 01, or 15 of document 02, by its number there.
 #[derive(Clone, Copy, Debug, PartialEq, Eq, PartialOrd, Ord, Hash)]
 #[repr(u8)]
 pub enum Refusal {
@@ -21,13 +21,14 @@ pub enum Refusal {
     SheetRuleBroken,
     BadStep,
     EndsOrdinary,
+    Padded,
 }
 
 use Refusal::*;
 
 impl Refusal {
     /// All of them, in the order of their numbers from 1 on.
-    pub const ALL: [Refusal; 14] = [
+    pub const ALL: [Refusal; 15] = [
         EndsTooSoon,
         NumberTooLong,
         BadHeader,
@@ -42,9 +43,10 @@ impl Refusal {
         SheetRuleBroken,
         BadStep,
         EndsOrdinary,
+        Padded,
     ];
 
-    /// 1 to 14.
+    /// 1 to 15.
     pub fn number(self) -> u8 {
         self as u8
     }
@@ -65,6 +67,7 @@ impl Refusal {
             SheetRuleBroken => "the sheet breaks a rule",
             BadStep => "a step of the trail cannot be taken",
             EndsOrdinary => "the trail ends in an ordinary location",
+            Padded => "a number of the evidence is not in shortest form",
         }
     }
 }
@@ -115,12 +118,12 @@ mod tests {
             assert_eq!(refusal.number(), at);
             assert_eq!(Refusal::try_from(at), Ok(refusal));
         }
-        for other in [0, 15, 255] {
+        for other in [0, 16, 255] {
             assert_eq!(Refusal::try_from(other), Err(NoRefusal(other)));
         }
         assert_eq!(
-            NoRefusal(15).to_string(),
-            "15 is no refusal; they are numbered 1 to 14"
+            NoRefusal(16).to_string(),
+            "16 is no refusal; they are numbered 1 to 15"
         );
     }
 

@@ -82,8 +82,9 @@ fn fields_of_an_answer() {
     assert_eq!(accepted(answer), Err(EndsOrdinary));
     let fields = [VERDICT, STATES, COUNT].map(|bits| field(answer, bits));
     assert_eq!(fields, [1, 0xff_ffff, 7]);
-    let whole = [VERDICT, STATES, COUNT, WRITTEN, VALUE, NEXT].map(|bits| field(u64::MAX, bits));
-    let greatest = [8, 24, 24, 48, 24, 32].map(|bits| (1 << bits) - 1);
+    let bits = [VERDICT, STATES, COUNT, WRITTEN, VALUE, PADDED, NEXT];
+    let whole = bits.map(|bits| field(u64::MAX, bits));
+    let greatest = [8, 24, 24, 48, 21, 1, 32].map(|bits| (1 << bits) - 1);
     assert_eq!(whole, greatest);
 }
 

@@ -41,7 +41,7 @@ fn drafted(edge: &Edge) -> DraftEdge {
 /// The plan of model bytes, with plain names; or the first flaw, by the
 /// order of document 01 (refusals 1 to 7).
 pub fn decode(bytes: &[u8]) -> Result<Plan, Flaw> {
-    let mut numbers = Numbers::new(bytes);
+    let mut numbers = Numbers::of_plan(bytes);
     let mut stays = Vec::new();
     let model = Model::from_fields(&mut |field, range| {
         let number = number_within(&mut numbers, field, range)?;

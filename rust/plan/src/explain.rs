@@ -89,6 +89,12 @@ const REFUSALS: [(&str, &str); LAST as usize] = [
         "Every step can be taken, but the last one does not lead into a forbidden location, so \
          the trail shows no danger.",
     ),
+    (
+        "a number of the evidence is not in shortest form",
+        "Evidence goes by radio, so each of its numbers takes as few bytes as it can: one below \
+         128, two below 16,384, else three. An empty last byte, 0, makes it too long. Have the \
+         evidence written again without padding; a plan may be padded.",
+    ),
 ];
 
 fn header_advice() -> String {
@@ -174,7 +180,7 @@ fn matching(number: Refusal, what: &str, flaw: &Flaw) -> String {
 
 /// Follows evidence of either kind: its name, or its first flaw.
 pub fn read_evidence(plan: &Plan, evidence: &[u8]) -> Result<&'static str, Flaw> {
-    let mut numbers = Numbers::new(evidence);
+    let mut numbers = Numbers::of_evidence(evidence);
     match numbers.next("the mark of the evidence")? {
         SHEET => read_sheet(plan, evidence).map(|_| "sheet"),
         TRAIL => read_trail(plan, evidence).flaw.map_or(Ok("trail"), Err),

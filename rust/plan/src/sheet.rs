@@ -44,7 +44,7 @@ pub fn read_sheet(plan: &Plan, evidence: &[u8]) -> Result<Tally, Flaw> {
 }
 
 fn sheet_numbers(plan: &Plan, graph: &Graph, evidence: &[u8]) -> Result<Vec<u32>, Flaw> {
-    let mut numbers = Numbers::new(evidence);
+    let mut numbers = Numbers::of_evidence(evidence);
     numbers.next("the mark of the evidence")?;
     let most = greatest_number(graph.states());
     let mut all = Vec::new();

@@ -52,7 +52,7 @@ pub fn read_trail(plan: &Plan, evidence: &[u8]) -> Reading {
         plan,
         model: plan.model(),
         regions: Regions::of(plan.clocks.len(), plan.ceiling),
-        numbers: Numbers::new(evidence),
+        numbers: Numbers::of_evidence(evidence),
     };
     let mut steps = Vec::new();
     let flaw = replay.trail(&mut steps).err();

@@ -11,14 +11,14 @@ use second::mutate::mutate;
 #[test]
 fn every_refusal_is_explained() {
     let mut seen = std::collections::BTreeSet::new();
-    for number in 1..=14 {
+    for number in 1..=15 {
         let words = refusal_words(number).unwrap();
         assert!(words.starts_with(&format!("refused {number}: ")));
         assert!(words.lines().count() == 2 && words.ends_with(".\n"));
         seen.insert(words);
     }
-    assert_eq!(seen.len(), 14);
-    assert_eq!((refusal_words(0), refusal_words(15)), (None, None));
+    assert_eq!(seen.len(), 15);
+    assert_eq!((refusal_words(0), refusal_words(16)), (None, None));
 }
 
 #[test]
@@ -142,6 +142,7 @@ fn evidence_is_read_as_it_is_checked() {
         Err(12),
         Err(13),
         Err(14),
+        Err(15),
     ] {
         assert!(seen.contains(&answer), "{answer:?}");
     }
@@ -191,6 +192,15 @@ fn which_number_of_a_trail() {
         trail_words(&[2, 5, 0, 0, 0, 0, 0]),
         "13: number 7 (byte 7), step 5: no time can pass at x=2, y=2: a clock is at the ceiling"
     );
+    // Padding comes before what the number would be refused for.
+    assert_eq!(
+        trail_words(&[2, 1, 132, 0]),
+        "15: number 3 (byte 3), the kind of step 1: it is 4, spelt in 2 bytes where 1 is enough"
+    );
+    assert_eq!(
+        trail_words(&[2, 128, 129, 0]),
+        "15: number 2 (byte 2), the number of steps: it is 128, spelt in 3 bytes where 2 are enough"
+    );
     assert_eq!(
         trail_words(&[2, 1, 3, 1, 0, 0, 0]),
         "13: number 7 (byte 7), step 1: the region x=1, y=0 shares no corner with the region x=0, y=0"
@@ -204,6 +214,10 @@ fn which_rule_of_a_sheet() {
         read_evidence(&plan, sheet).map_err(|flaw| format!("{}: {}", flaw.refusal, flaw.words))
     };
     assert_eq!(words(&[1, 5, 3, 1]), Ok("sheet"));
+    assert_eq!(
+        words(&[1, 5, 131, 128, 0, 1]),
+        Err("15: number 3 (byte 3), state 1, 'idle' at 0<x<1: it is 3, spelt in 3 bytes where 1 is enough".to_string())
+    );
     assert_eq!(
         words(&[1, 5, 3, 6]),
         Err(

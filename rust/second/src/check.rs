@@ -1,5 +1,6 @@
 //! The check of evidence from anywhere: number by number, with the refusals
-//! 1, 2, 6 and 10 to 14 in the order of document 01.
+//! 1, 2, 6 and 10 to 14 in the order of document 01, and 15 of document 02 just
+//! after 2.
 
 use crate::graph::{jump_step, time_step, Graph, FACE, JUMP, TIME, TOUCH};
 use crate::numbers::Reader;
@@ -11,7 +12,7 @@ use crate::trail::TRAIL;
 /// passing trail.
 pub fn check(graph: &Graph, evidence: &[u8]) -> Result<u32, Refusal> {
     let mut reader = Reader::new(evidence);
-    let first = reader.number()?;
+    let first = next_number(&mut reader)?;
     match first {
         SHEET => check_sheet(graph, &mut reader)?,
         TRAIL => check_trail(graph, &mut reader)?,
@@ -20,11 +21,21 @@ pub fn check(graph: &Graph, evidence: &[u8]) -> Result<u32, Refusal> {
     Ok(first)
 }
 
+/// The next number by 1, 2, 15. Every number of evidence is read here; what
+/// remains after the last one is not read.
+fn next_number(reader: &mut Reader) -> Result<u32, Refusal> {
+    let number = reader.spelled()?;
+    if number.padded {
+        return Err(PADDED);
+    }
+    Ok(number.value)
+}
+
 fn check_sheet(graph: &Graph, reader: &mut Reader) -> Result<(), Refusal> {
     let most = greatest_number(graph.states());
     let mut numbers = Vec::with_capacity(graph.states());
     for state in 0..graph.states() {
-        let number = reader.number()?;
+        let number = next_number(reader)?;
         if number > most || (number != 0 && !graph.allowed[state]) {
             return Err(BAD_SHEET_NUMBER);
         }
@@ -41,8 +52,8 @@ fn check_sheet(graph: &Graph, reader: &mut Reader) -> Result<(), Refusal> {
 
 fn check_trail(graph: &Graph, reader: &mut Reader) -> Result<(), Refusal> {
     let mut state = graph.start;
-    for _ in 0..reader.number()? {
-        let kind = reader.number()?;
+    for _ in 0..next_number(reader)? {
+        let kind = next_number(reader)?;
         state = match u8::try_from(kind) {
             Ok(TIME | JUMP) => replay_walk_step(graph, reader, kind, state)?,
             Ok(FACE) => read_region(graph, reader, state, |regions, here, there| {
@@ -77,7 +88,7 @@ fn replay_walk_step(
     let to = match u8::try_from(kind) {
         Ok(TIME) => time_step(graph.regions, &graph.allowed, state),
         Ok(JUMP) => {
-            let edge = reader.number()? as usize;
+            let edge = next_number(reader)? as usize;
             if edge >= graph.model.edges.len() {
                 return Err(BAD_STEP);
             }
@@ -99,7 +110,7 @@ fn read_region(
     let clocks = graph.regions.clocks;
     let mut numbers = Vec::with_capacity(2 * clocks);
     for _ in 0..2 * clocks {
-        numbers.push(reader.number()?);
+        numbers.push(next_number(reader)?);
     }
     let (whole, rank) = numbers.split_at(clocks);
     let Some(region) = graph.regions.find(whole, rank) else {
@@ -115,13 +126,13 @@ fn read_region(
 /// Reads a count of at least 1 and that many time and jump steps, which must
 /// lead from the touched state back to it.
 fn replay_closed_walk(graph: &Graph, reader: &mut Reader, touched: usize) -> Result<(), Refusal> {
-    let count = reader.number()?;
+    let count = next_number(reader)?;
     if count == 0 {
         return Err(BAD_STEP);
     }
     let mut state = touched;
     for _ in 0..count {
-        let kind = reader.number()?;
+        let kind = next_number(reader)?;
         state = replay_walk_step(graph, reader, kind, state)?;
     }
     if state != touched {

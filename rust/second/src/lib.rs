@@ -3,10 +3,11 @@
 //!
 //! The modules follow the order of document 01: numbers, models, regions,
 //! steps, the marked set, evidence, calls. `limits` has the limits of all of
-//! them. `shortest_plan` is request (a) of document 02. Beyond both, `margin`
-//! and `harm` tell how slight a drift is harmless and how soon another does
-//! harm. `brute` does everything again by naive definitions, `widened` searches
-//! runs without regions; `generate`, `mutate` and `other` make inputs for
+//! them. `shortest_plan` is request (a) of document 02; request (b), that no
+//! evidence is padded, is in `numbers` and `check`. Beyond both, `margin` and
+//! `harm` tell how slight a drift is harmless and how soon another does harm.
+//! `brute` does everything again by naive definitions, `widened` searches runs
+//! without regions; `generate`, `mutate`, `padding` and `other` make inputs for
 //! comparisons, `cases` those of a proved program with their answers.
 
 // Loops over clocks and states index several lists at once.
@@ -29,6 +30,7 @@ pub mod model;
 pub mod mutate;
 pub mod numbers;
 pub mod other;
+pub mod padding;
 pub mod program;
 pub mod random;
 pub mod refusal;
@@ -41,5 +43,5 @@ pub mod widened;
 pub use calls::{check_evidence, judge, marks, write_evidence, write_plan, Judgement};
 pub use calls::{harm, sheet_margin, Harm, SheetMargin};
 pub use model::{read_model, Edge, Location, Model};
-pub use numbers::number_at;
+pub use numbers::{number_at, spelled_at, Spelled};
 pub use refusal::Refusal;

@@ -3,18 +3,24 @@
 
 use crate::components::Components;
 use crate::graph::{Graph, FACE, JUMP, TIME, TOUCH};
-use crate::limits::{MAX_EDGES, NUMBER_BYTES};
+use crate::limits::MAX_EDGES;
 use crate::marking::{reached, Closure};
 use crate::model::read_model;
-use crate::numbers::{numbers_of, push_padded, shortest, LARGEST};
+use crate::numbers::{numbers_of, shortest, LARGEST};
+use crate::padding::{count, pad_many, pad_one, pad_somehow, start_of};
 use crate::random::Random;
 use crate::sheet::{greatest_number, our_sheet, SHEET};
 use crate::trail::TRAIL;
 
 /// The kinds of change, each with what it does.
-pub const KINDS: [(&str, &str); 19] = [
+pub const KINDS: [(&str, &str); 21] = [
     ("change", "any number changed"),
-    ("pad", "numbers padded (no damage)"),
+    ("pad", "one number padded"),
+    ("pad-many", "numbers padded, one at least"),
+    (
+        "pad-order",
+        "a number padded, and other damage before, at or after it",
+    ),
     ("too-long", "a number that goes on after its third byte"),
     ("cut", "bytes cut off"),
     ("extend", "bytes added"),
@@ -53,9 +59,10 @@ pub fn mutate(seed: u64, model: &[u8], evidence: &[u8]) -> (&'static str, Vec<u8
 pub fn mutate_as(seed: u64, kind: &str, model: &[u8], evidence: &[u8]) -> Option<Vec<u8>> {
     let random = &mut Random::with_word(seed, kind);
     match kind {
-        "change" | "pad" | "too-long" | "cut" | "extend" | "first" => {
-            change_bytes(random, kind, evidence)
-        }
+        "change" | "too-long" | "cut" | "extend" | "first" => change_bytes(random, kind, evidence),
+        "pad" => pad_one(random, evidence, roles_in(model, evidence).as_deref()),
+        "pad-many" => pad_many(random, evidence),
+        "pad-order" => pad_and_damage(random, model, evidence),
         _ => {
             let graph = Graph::new(read_model(model).ok()?);
             let numbers = some_numbers_of(evidence)?;
@@ -99,12 +106,6 @@ fn change_bytes(random: &mut Random, kind: &str, evidence: &[u8]) -> Option<Vec<
                     numbers[0] = *random.pick(&[0, 3 - numbers[0].min(3), 3, 4, LARGEST]);
                     bytes = shortest(&numbers);
                 }
-                "pad" => {
-                    bytes.clear();
-                    for &number in &numbers {
-                        push_padded(&mut bytes, number, random.range(1, NUMBER_BYTES));
-                    }
-                }
                 _ => {
                     bytes = shortest(&numbers[..at]);
                     bytes.extend([numbers[at] as u8 | 128, 128, 128 + random.below(128) as u8]);
@@ -114,6 +115,45 @@ fn change_bytes(random: &mut Random, kind: &str, evidence: &[u8]) -> Option<Vec<
         }
     }
     Some(bytes)
+}
+
+/// Other damage, then a padded number at its place, near it on either side or
+/// anywhere, so that the order of refusals decides. At times the bytes end in
+/// that number or just after it.
+fn pad_and_damage(random: &mut Random, model: &[u8], evidence: &[u8]) -> Option<Vec<u8>> {
+    let damaged = damage(random, model, evidence);
+    let same = damaged
+        .iter()
+        .zip(evidence)
+        .take_while(|(new, old)| new == old)
+        .count();
+    // The number that holds the first byte that differs, or the next to come.
+    let there = count(&damaged[..same]);
+    let last = count(&damaged).checked_sub(1)?;
+    let place = if random.one_in(3) {
+        random.range(0, last)
+    } else {
+        (there + random.below(5)).saturating_sub(2).min(last)
+    };
+    let mut bytes = pad_somehow(random, &damaged, place)?;
+    if random.one_in(4) {
+        bytes.truncate(start_of(&damaged, place)? + random.range(1, 4));
+    }
+    Some(bytes)
+}
+
+/// Damage of any kind but padding.
+fn damage(random: &mut Random, model: &[u8], evidence: &[u8]) -> Vec<u8> {
+    loop {
+        // "extend" always applies, so this comes to an end.
+        let (kind, _) = *random.pick(&KINDS);
+        if kind.starts_with("pad") {
+            continue;
+        }
+        if let Some(bytes) = mutate_as(random.bits(), kind, model, evidence) {
+            return bytes;
+        }
+    }
 }
 
 /// A number that differs: often by one, sometimes by much.
@@ -233,9 +273,14 @@ fn hidden_loop(graph: &Graph) -> Vec<u8> {
     our_sheet(graph, &components, &marked)
 }
 
-/// What a number of a trail stands for.
-#[derive(Clone, Copy, PartialEq, Eq)]
-enum Role {
+/// What a number of evidence stands for.
+#[derive(Clone, Copy, Debug, PartialEq, Eq, PartialOrd, Ord)]
+pub enum Role {
+    /// Sheet or trail.
+    First,
+    /// A state's number in a sheet.
+    State,
+    // The others are those of a trail.
     Count,
     Kind,
     Edge,
@@ -243,6 +288,21 @@ enum Role {
     WalkCount,
     WalkKind,
     WalkEdge,
+}
+
+/// The role of each number; none if they do not spell a whole sheet or trail.
+pub fn roles(graph: &Graph, numbers: &[u32]) -> Option<Vec<Role>> {
+    let rest = match *numbers.first()? {
+        SHEET if numbers.len() == graph.states() + 1 => vec![Role::State; graph.states()],
+        _ => parse(graph, numbers)?.roles,
+    };
+    Some([&[Role::First], &rest[..]].concat())
+}
+
+/// The same for bytes of evidence and of a model.
+fn roles_in(model: &[u8], evidence: &[u8]) -> Option<Vec<Role>> {
+    let graph = Graph::new(read_model(model).ok()?);
+    roles(&graph, &numbers_of(evidence).ok()?)
 }
 
 /// A trail as its numbers with their roles, and where each step begins.

@@ -1,9 +1,9 @@
 //! Evidence that passes and is not ours: sheets with other heights or with
 //! more states in, trails that wander. Also trails that replay and end
-//! anywhere. Nothing here takes part in an answer of the checker.
+//! anywhere. All are in shortest form, without which nothing passes. Nothing
+//! here takes part in an answer of the checker.
 
 use crate::components::Components;
-use crate::draft::padded;
 use crate::graph::{Graph, Step, FACE, JUMP, TIME, TOUCH};
 use crate::marking::{distance_to_forbidden, is_unsafe, CornerNotes, UNREACHED};
 use crate::numbers::shortest;
@@ -26,11 +26,7 @@ pub fn other_sheet(random: &mut Random, graph: &Graph, components: &Components) 
         more_in(random, graph, components, marked)
     };
     let numbers = sheet_numbers(random, graph, components, &is_in);
-    Some(if random.one_in(4) {
-        padded(random, &numbers)
-    } else {
-        shortest(&numbers)
-    })
+    Some(shortest(&numbers))
 }
 
 /// The smallest set with these allowed states that is closed under all four

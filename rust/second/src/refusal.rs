@@ -1,4 +1,5 @@
-//! The refusals of document 01, by the number that a call returns.
+//! The refusals of document 01, by the number that a call returns, and 15 of
+//! request (b) of document 02.
 
 pub type Refusal = u8;
 
@@ -30,6 +31,9 @@ pub const SHEET_RULE_BROKEN: Refusal = 12;
 pub const BAD_STEP: Refusal = 13;
 /// The trail ends in an ordinary location.
 pub const ENDS_ORDINARY: Refusal = 14;
+/// A number of the evidence is not in shortest form. Tested just after 2 for
+/// that number; models may be padded.
+pub const PADDED: Refusal = 15;
 
 /// They are numbered from 1 to this.
-pub const LAST: Refusal = ENDS_ORDINARY;
+pub const LAST: Refusal = PADDED;

@@ -110,6 +110,9 @@ fn limit_of_the_stay_field() {
 fn limit_of_the_number() {
     assert_eq!(number_at(&[133, 128, 0], 0), Ok((5, 3)));
     assert_eq!(number_at(&[133, 128, 128], 0), Err(2));
+    // It is read in a model; evidence passes without it.
+    assert!(read_model(&[1, 1, 1, 1, 0, 128, 128, 0, 0, 0]).is_ok());
+    assert_eq!(check(&ROW, &[1, 133, 128, 0, 3, 1]), Err(15));
 }
 
 #[test]

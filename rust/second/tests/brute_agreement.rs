@@ -7,12 +7,15 @@ use second::brute::regions::NaiveRegions;
 use second::brute::trails::{least_of_all, least_trail, least_walk};
 use second::brute::Brute;
 use second::generate::generate;
+use second::graph::Graph;
 use second::limits::NUMBER_BYTES;
-use second::mutate::mutate;
-use second::numbers::push_padded;
+use second::mutate::{mutate, mutate_as, roles, Role};
+use second::numbers::{numbers_of, push_padded};
+use second::padding::{count, first_padded, pad_at};
 use second::random::Random;
 use second::regions::Regions;
 use second::{judge, marks, read_model};
+use std::collections::BTreeMap;
 
 /// Holds everything about a model against the brute-force route; true if the
 /// model is accepted.
@@ -136,6 +139,78 @@ fn padded_tiny_models() {
         }
         assert!(compare(&padded, seed, 4));
     }
+}
+
+/// What both routes answer.
+fn agreed(brute: &Brute, model: &[u8], evidence: &[u8]) -> Result<u32, u8> {
+    let answer = check(model, evidence);
+    assert_eq!(answer, brute.check(evidence), "{model:?} {evidence:?}");
+    answer
+}
+
+/// Each number of our evidence, padded alone by one empty group or two.
+#[test]
+fn evidence_padded_at_each_place() {
+    let mut padded = 0;
+    for seed in 0..300 {
+        let model = generate(seed, "tiny").unwrap();
+        let brute = Brute::new(&model).unwrap();
+        let ours = evidence(&model);
+        for place in 0..count(&ours) {
+            for other in (1..NUMBER_BYTES).filter_map(|groups| pad_at(&ours, place, groups)) {
+                assert_eq!(agreed(&brute, &model, &other), Err(15));
+                padded += 1;
+            }
+        }
+    }
+    assert!(padded >= 5_000);
+}
+
+/// A single padded number comes up often in each role, and its place is the
+/// only thing that decides.
+#[test]
+fn evidence_padded_in_each_role() {
+    let mut seen: BTreeMap<Role, usize> = BTreeMap::new();
+    for seed in 0..600 {
+        let model = generate(seed, ["tiny", "small"][seed as usize % 2]).unwrap();
+        let brute = Brute::new(&model).unwrap();
+        let graph = Graph::new(read_model(&model).unwrap());
+        let ours = evidence(&model);
+        let roles = roles(&graph, &numbers_of(&ours).unwrap()).unwrap();
+        for again in 0..6 {
+            let one = mutate_as(6 * seed + again, "pad", &model, &ours).unwrap();
+            assert_eq!(agreed(&brute, &model, &one), Err(15));
+            *seen.entry(roles[first_padded(&one).unwrap()]).or_default() += 1;
+            let many = mutate_as(6 * seed + again, "pad-many", &model, &ours).unwrap();
+            assert_eq!(agreed(&brute, &model, &many), Err(15));
+        }
+    }
+    println!("padded {seen:?}");
+    assert_eq!(seen.len(), 9);
+    assert!(seen.values().all(|&times| times >= 100), "{seen:?}");
+}
+
+/// A padded number with other damage before, at or after it: every refusal of
+/// a number comes up. None of the rest can, since a padded number is read
+/// before 12 and 14 are looked at.
+#[test]
+fn padding_among_other_damage() {
+    let mut seen: BTreeMap<u8, usize> = BTreeMap::new();
+    for seed in 0..1_500 {
+        let model = generate(seed, ["tiny", "small"][seed as usize % 2]).unwrap();
+        let brute = Brute::new(&model).unwrap();
+        let ours = evidence(&model);
+        for again in 0..8 {
+            if let Some(both) = mutate_as(8 * seed + again, "pad-order", &model, &ours) {
+                let refusal = agreed(&brute, &model, &both).unwrap_err();
+                *seen.entry(refusal).or_default() += 1;
+            }
+        }
+    }
+    println!("refusals {seen:?}");
+    let refusals: Vec<u8> = seen.keys().copied().collect();
+    assert_eq!(refusals, [1, 2, 6, 10, 11, 13, 15]);
+    assert!(seen.values().all(|&times| times >= 100), "{seen:?}");
 }
 
 #[test]

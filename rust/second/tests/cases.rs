@@ -9,9 +9,12 @@ use second::cases::rules::{broken_rules, Rule, RULES};
 use second::cases::{answers, cases};
 use second::graph::Graph;
 use second::limits::{MAX_CLOCKS, MAX_EDGES};
-use second::numbers::{number_at, numbers_of};
+use second::mutate::{roles, Role};
+use second::numbers::{numbers_of, shortest, Reader};
+use second::padding::{first_padded, pad_at};
 use second::program::{bytes_of_text, SCRATCH};
 use second::read_model;
+use second::refusal::LAST;
 use std::collections::BTreeSet;
 
 /// A plan, the line of a case of it, and the answer.
@@ -66,7 +69,7 @@ fn every_answer_comes_up() {
     let pieces: Vec<_> = plans.iter().flat_map(|(_, pieces)| pieces).collect();
     assert!(pieces.len() >= 60);
     let seen: BTreeSet<&str> = pieces.iter().map(|(_, answer)| answer.as_str()).collect();
-    let wanted = (1..=14).filter(|&refusal| refusal != 9);
+    let wanted = (1..=LAST).filter(|&refusal| refusal != 9);
     let mut wanted: BTreeSet<String> = wanted.map(|refusal| refusal.to_string()).collect();
     wanted.extend(["0 1".into(), "0 2".into()]);
     assert_eq!(seen, wanted.iter().map(String::as_str).collect());
@@ -93,7 +96,7 @@ fn every_answer_of_an_operation_comes_up() {
         ("plan", &[9]),
         ("margin", &[]),
     ] {
-        for number in 0..=14 {
+        for number in 0..=LAST {
             let expected = number <= 7 || beyond_7.contains(&number);
             assert_eq!(
                 gives(word, &number.to_string()),
@@ -163,6 +166,30 @@ fn no_rule_is_broken_by_what_passes() {
     }
 }
 
+/// A number of each role is padded alone, by one empty group and by two, in
+/// evidence that passes without that.
+#[test]
+fn every_place_is_padded_alone() {
+    let mut alone: BTreeSet<(Role, usize)> = BTreeSet::new();
+    for (model, pieces) in answered() {
+        for (evidence, _) in pieces.iter().filter(|(_, answer)| answer == "15") {
+            let graph = Graph::new(read_model(&model).unwrap());
+            // What follows the padded number may spell none.
+            let numbers = numbers_of(evidence).unwrap_or_default();
+            let short = shortest(&numbers);
+            if second::check::check(&graph, &short).is_err() {
+                continue;
+            }
+            let place = first_padded(evidence).unwrap();
+            let groups = evidence.len() - short.len();
+            if pad_at(&short, place, groups).as_ref() == Some(evidence) {
+                alone.insert((roles(&graph, &numbers).unwrap()[place], groups));
+            }
+        }
+    }
+    assert_eq!(alone.len(), 9 * 2, "{alone:?}");
+}
+
 /// The brute-force route answers alike, but for scratch, which it knows not.
 #[test]
 fn the_brute_force_route_answers_alike() {
@@ -219,21 +246,28 @@ fn cases_are_those_stored() {
     assert!(stored.lines().all(|line| line.split(',').count() <= 1_024));
 }
 
-/// What a reader over a piece of evidence gives, line by line: each number or
-/// the refusal with the place where it then stands, and the refusal once more.
+/// What a reader over a piece of evidence gives, line by line: each number,
+/// told if it is padded, or the refusal, with the place where it then stands;
+/// and the refusal once more.
 fn reader_lines(bytes: &[u8]) -> String {
     let mut lines = String::from("bytes");
     for byte in bytes {
         lines += &format!(" {byte}");
     }
     lines.push('\n');
-    let mut at = 0;
-    while let Ok((number, next)) = number_at(bytes, at) {
-        at = next;
-        lines += &format!("{number} at {at}\n");
-    }
-    let refusal = number_at(bytes, at).unwrap_err();
-    lines + &format!("refused {refusal} at {at}\n").repeat(2)
+    let mut reader = Reader::new(bytes);
+    let refusal = loop {
+        match reader.spelled() {
+            Ok(number) => {
+                let padded = if number.padded { " padded" } else { "" };
+                lines += &format!("{}{padded} at {}\n", number.value, reader.place());
+            }
+            Err(refusal) => break refusal,
+        }
+    };
+    lines += &format!("refused {refusal} at {}\n", reader.place());
+    assert_eq!(reader.spelled(), Err(refusal));
+    lines + &format!("refused {refusal} at {}\n", reader.place())
 }
 
 /// In the stored input each piece stands after its length; the trail of the

@@ -126,8 +126,20 @@ fn check_files() {
         b"refused 8\n"
     );
     assert_eq!(answer(&["check", "-", &trail], &LOOP), b"passes 2\n");
-    let padded = answer(&["mutate", "1", &model, &trail, "pad"], &[]);
-    assert_eq!(check(&LOOP, &padded), Ok(2));
+}
+
+#[test]
+fn padded_evidence() {
+    let model = file("padded.model", &LOOP);
+    let trail = file("padded.trail", &LOOP_TRAIL);
+    for (seed, kind) in [("1", "pad"), ("2", "pad"), ("1", "pad-many")] {
+        let padded = answer(&["mutate", seed, &model, &trail, kind], &[]);
+        assert!(padded.len() > LOOP_TRAIL.len());
+        let padded = file("padded.other", &padded);
+        assert_eq!(answer(&["check", &model, &padded], &[]), b"refused 15\n");
+    }
+    let both = answer(&["mutate", "1", &model, &trail, "pad-order"], &[]);
+    assert!(check(&LOOP, &both).is_err());
 }
 
 #[test]

@@ -13,6 +13,7 @@ use second::marking::{reached, Closure};
 use second::mutate::{self, mutate, mutate_as};
 use second::numbers::numbers_of;
 use second::random::Random;
+use second::refusal::LAST;
 use second::{judge, read_model};
 use std::collections::BTreeSet;
 
@@ -175,15 +176,15 @@ fn every_change_applies_and_every_refusal_comes_up() {
         assert_eq!(mutate(seed, &bytes, &ours), (kind, other.clone()));
         kinds.insert(kind);
         answers.insert(check(&bytes, &other));
-        if kind == "pad" || kind == "twice" {
-            assert_eq!(check(&bytes, &other), check(&bytes, &ours));
-        }
-        if kind == "cut" {
-            assert!(check(&bytes, &other).is_err());
+        match kind {
+            "twice" => assert_eq!(check(&bytes, &other), check(&bytes, &ours)),
+            "pad" | "pad-many" => assert_eq!(check(&bytes, &other), Err(15)),
+            "pad-order" | "cut" => assert!(check(&bytes, &other).is_err()),
+            _ => {}
         }
     }
     assert_eq!(kinds.len(), mutate::KINDS.len());
-    for refusal in [1, 2, 6, 10, 11, 12, 13, 14] {
+    for refusal in [1, 2, 6, 10, 11, 12, 13, 14, 15] {
         assert!(answers.contains(&Err(refusal)), "{refusal}");
     }
     assert!(answers.contains(&Ok(1)) && answers.contains(&Ok(2)));
@@ -202,7 +203,7 @@ fn any_bytes() {
         let evidence = [&[seed as u8 % 4][..], &some(60)].concat();
         for model in models {
             let answer = check(&model, &evidence);
-            assert!((1..=14).contains(&answer.unwrap_or_else(|refusal| refusal.into())));
+            assert!((1..=LAST).contains(&answer.map_or_else(|refusal| refusal, |kind| kind as u8)));
             mutate(seed, &model, &evidence);
             for (kind, _) in mutate::KINDS {
                 mutate_as(seed, kind, &model, &evidence);

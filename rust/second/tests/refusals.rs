@@ -4,6 +4,7 @@ mod common;
 
 use common::*;
 use second::numbers::shortest;
+use second::padding::{count, pad_at};
 use second::{check_evidence, judge, marks, read_model, write_evidence};
 
 /// The loop plan with one number changed and, if asked for, cut after it.
@@ -178,7 +179,15 @@ fn first_number_of_evidence() {
         assert_eq!(check(&ROW, &[first]), Err(10));
         assert_eq!(check(&ROW, &[first, 128, 128, 128]), Err(10));
     }
-    assert_eq!(check(&ROW, &[129, 128, 0, 133, 0, 3, 129, 0]), Ok(1));
+    // Padded, before 10 and before what follows.
+    for first in [0, 1, 2, 3, 4, 127] {
+        for padded in [&[first | 128, 0][..], &[first | 128, 128, 0]] {
+            assert_eq!(check(&ROW, padded), Err(15));
+            assert_eq!(check(&ROW, &[padded, &[128, 128, 128]].concat()), Err(15));
+        }
+    }
+    assert_eq!(check(&ROW, &[128, 1]), Err(10));
+    assert_eq!(check(&ROW, &[128, 129, 0]), Err(15));
     // The model comes first.
     assert_eq!(check(&ROW[..7], &[]), Err(1));
     assert_eq!(check(&[&ROW[..], &[0]].concat(), &[9]), Err(6));
@@ -268,8 +277,8 @@ fn steps_of_a_trail() {
     for kind in [4, 5, 127] {
         assert_eq!(with(&[1, kind]), Err(13));
     }
-    assert_eq!(with(&[1, 132, 0]), Err(13));
-    assert_eq!(with(&[1, 128, 0]), Err(14)); // time, padded
+    assert_eq!(with(&[1, 132, 0]), Err(15)); // padded
+    assert_eq!(with(&[1, 128, 0]), Err(15)); // time, padded
     assert_eq!(with(&[5, 0, 0, 0, 0, 0]), Err(13)); // past the ceiling
     assert_eq!(with(&[4, 0, 0, 0, 0]), Err(14));
     // Edges: a guard that does not hold, another location, no such edge.
@@ -367,4 +376,133 @@ fn inputs_at_which_readings_could_differ() {
     through[6] = 1;
     assert_eq!(check(&through, &[2, 3, 0, 0, 1, 0]), Err(14));
     assert_eq!(check(&through, &[2, 2, 0, 0]), Ok(2));
+}
+
+/// Each number of passing evidence, padded alone by one empty group or two.
+#[test]
+fn a_padded_number_anywhere() {
+    let mut forbidden = ROW;
+    forbidden[6] = 1;
+    let mut shut = ROW;
+    shut[7] = 1;
+    let mut padded = 0;
+    for (model, passing) in [
+        (&ROW[..], &[1, 5, 3, 1][..]),
+        (&TWO, &[1, 7, 5, 3, 4, 2, 1]),
+        (&shut, &[1, 1, 0, 0]),
+        (&forbidden, &[2, 0]),
+        (&LOOP, &LOOP_TRAIL),
+        (&LOOP, &evidence(&LOOP)),
+    ] {
+        assert_eq!(check(model, passing), Ok(passing[0].into()));
+        for place in 0..count(passing) {
+            for groups in 1..=2 {
+                let other = pad_at(passing, place, groups).unwrap();
+                assert_eq!(check(model, &other), Err(15), "{other:?}");
+                // A padded number is still none before its last byte.
+                let cut = &other[..place + groups];
+                assert_eq!(check(model, cut), Err(1), "{cut:?}");
+                padded += 1;
+            }
+        }
+    }
+    assert_eq!(padded, 2 * (4 + 7 + 4 + 2 + 34 + 42));
+}
+
+/// 15 for a sheet number stands after its 1 and 2, and before its 11.
+#[test]
+fn order_in_a_padded_sheet() {
+    for (evidence, refusal) in [
+        (&[1, 133][..], 1),
+        (&[1, 133, 128], 1),
+        (&[1, 133, 128, 128], 2),
+        (&[1, 133, 128, 128, 0], 2),
+        (&[1, 133, 0], 15),
+        (&[1, 137, 0], 15),
+        (&[1, 128, 1], 11),
+        (&[1, 128, 129, 0], 15),
+        (&[1, 9, 131, 0], 11),
+        (&[1, 133, 0, 9], 15),
+        (&[1, 133, 0, 128, 128, 128], 15),
+        // What remains is not read; the rules come last.
+        (&[1, 5, 3, 1, 128, 0], 6),
+        (&[1, 0, 0, 0, 128, 0], 6),
+        (&[1, 5, 3, 129, 0, 0], 15),
+        (&[1, 4, 2, 128, 0], 15),
+    ] {
+        assert_eq!(check(&ROW, evidence), Err(refusal), "{evidence:?}");
+    }
+    let shut = [1, 1, 1, 1, 0, 0, 0, 1];
+    assert_eq!(check(&shut, &[1, 1, 129, 0, 0]), Err(15));
+    assert_eq!(check(&shut, &[1, 1, 1, 128, 0]), Err(11));
+}
+
+/// 15 for a number of a trail stands after its 1 and 2, and before the 13 that
+/// comes with it.
+#[test]
+fn order_in_a_padded_trail() {
+    for (rest, refusal) in [
+        // The count; 14 comes after all numbers.
+        (&[128, 0][..], 15),
+        (&[128, 1], 1),
+        (&[128, 129, 0], 15),
+        (&[0, 128, 0], 6),
+        // Kinds and edges: bad, and after a bad one.
+        (&[1, 129, 0], 15),
+        (&[1, 4, 128, 0], 13),
+        (&[5, 0, 0, 0, 0, 128, 0], 15),
+        (&[1, 1, 128, 0], 15),
+        (&[1, 1, 128, 128], 1),
+        (&[1, 1, 0, 128, 0], 13),
+        (&[3, 0, 0, 1, 132, 0], 15),
+        (&[3, 0, 0, 1, 4, 128, 0], 13),
+        // A region: its numbers one by one, and 13 after the last of them.
+        (&[2, 0, 2, 137, 0], 15),
+        (&[2, 0, 2, 9, 137, 0, 9, 9], 15),
+        (&[2, 0, 2, 9, 128, 128, 128, 137, 0], 2),
+        (&[2, 0, 2, 9, 9, 9, 137, 0], 15),
+        (&[2, 0, 2, 9, 9, 9, 9, 137, 0], 13),
+        (&[2, 0, 2, 0, 0, 0, 128, 0], 15),
+    ] {
+        let evidence = [&[2], rest].concat();
+        assert_eq!(check(&LOOP, &evidence), Err(refusal), "{evidence:?}");
+    }
+}
+
+#[test]
+fn order_in_a_padded_walk() {
+    let touching = |rest: &[u8]| check(&LOOP, &[&LOOP_TRAIL[..14], rest].concat());
+    for (rest, refusal) in [
+        (&[128, 0][..], 15),
+        (&[0, 128, 0], 13),
+        (&[138, 0], 15),
+        (&[138], 1),
+        (&[9, 130, 0], 15),
+        (&[9, 2, 128, 0], 13),
+        (&[9, 129, 0, 9], 15),
+        (&[9, 1, 137, 0], 15),
+        (&[9, 1, 9, 128, 0], 13),
+        // A walk that does not close: 13 after its last number.
+        (&[1, 128, 0], 15),
+        (&[1, 0, 128, 0], 13),
+    ] {
+        assert_eq!(touching(rest), Err(refusal), "{rest:?}");
+    }
+    // A region that shares no corner comes before its walk.
+    let far = [&LOOP_TRAIL[..9], &[3, 1, 2, 1, 0, 138, 0]].concat();
+    assert_eq!(check(&LOOP, &far), Err(13));
+}
+
+/// Models may be padded, and they are looked at first, scratch too.
+#[test]
+fn only_evidence_is_refused_by_15() {
+    let mut padded = Vec::new();
+    for byte in ROW {
+        padded.extend([byte | 128, 128, 0]);
+    }
+    assert_eq!(check(&padded, &[1, 5, 3, 1]), Ok(1));
+    assert_eq!(check(&padded, &[1, 5, 3, 129, 0]), Err(15));
+    assert_eq!(check(&padded[1..], &[129, 0]), Err(3));
+    assert_eq!(check_evidence(&ROW, &[129, 0], [2; 4]), Err(8));
+    assert_eq!(check_evidence(&ROW, &[129, 0], [3; 4]), Err(15));
 }

@@ -32,7 +32,19 @@ const ORDINARY: [u8; 34] = {
     trail
 };
 
-const FAILING: [Failing; 9] = [
+/// The same with an edge of the closed walk padded: number 19, a 2.
+const PADDED: [u8; 35] = {
+    let mut trail = [0; 35];
+    let mut at = 0;
+    while at < 34 {
+        trail[if at < 19 { at } else { at + 1 }] = LOOP_TRAIL[at];
+        at += 1;
+    }
+    trail[18] |= 0x80;
+    trail
+};
+
+const FAILING: [Failing; 11] = [
     ("loop.txt", &[], 1, "there are only 0 bytes"),
     (
         "loop.txt",
@@ -71,6 +83,18 @@ const FAILING: [Failing; 9] = [
         &ORDINARY,
         14,
         "ends in 'one', which is not forbidden",
+    ),
+    (
+        "loop.txt",
+        &PADDED,
+        15,
+        "number 19 (byte 19), the edge of step 6.3: it is 2, spelt in 2 bytes",
+    ),
+    (
+        "tiny.txt",
+        &[1, 133, 0, 3, 1],
+        15,
+        "number 2 (byte 2), state 0, 'idle' at x=0: it is 5, spelt in 2 bytes",
     ),
 ];
 

@@ -111,7 +111,13 @@ fn explain() {
         told.contains("edge 1 (one -> two) does not leave 'entry'"),
         "{told}"
     );
-    for wrong in ["0", "15", "x", "-1"] {
+    let sheet = file("explain.sheet", [1, 5, 3, 129, 0]);
+    let told = printed(&["explain", "15", &plan("tiny.txt"), &sheet], GOOD);
+    assert!(
+        told.ends_with("'idle' at x=1: it is 1, spelt in 2 bytes where 1 is enough\n"),
+        "{told}"
+    );
+    for wrong in ["0", "16", "x", "-1"] {
         complaint(&["explain", "--", wrong], FAILED);
     }
 }

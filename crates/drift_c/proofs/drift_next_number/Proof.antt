@@ -6,14 +6,14 @@ use Rattle.drift_c.proofs.Fields.{small-value}
 use Rattle.drift_c.proofs.drift_next_number.Statement.{statement}
 use Rattle.drift_c.proofs.drift_next_number.Tie as tie
 
-read-requires : tie.Need-read-requires
-read-requires c κs = search needs
+read-spelled-requires : tie.Need-read-spelled-requires
+read-spelled-requires c κs = search needs
 
 number-word-requires : tie.Need-number-word-requires
-number-word-requires c κs = rw (c .read .ensures) (small-value _ _)
+number-word-requires c κs = rw (c .read-spelled .ensures) (small-value _ _)
 
 returns : tie.Need-returns
-returns c = c .number-word .ensures ∙ ap numberWord (c .before .read .ensures)
+returns c = c .number-word .ensures ∙ ap numberWord (c .before .read-spelled .ensures)
 
 pub drift-next-number-spec : {M : Type 1} → statement M
-drift-next-number-spec = tie.close (tie.spec read-requires number-word-requires returns)
+drift-next-number-spec = tie.close (tie.spec read-spelled-requires number-word-requires returns)

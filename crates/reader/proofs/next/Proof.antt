@@ -1,5 +1,5 @@
 -- A walk of the MIR of `next`, by hand. The borrow is opened; `next_offset` is called on the slice and the number that the struct holds, and its
--- answer is stored as the struct's number; `number::read` is called on the slice and the number from before; the borrow is closed at the new struct.
+-- answer is stored as the struct's number; `number::read_spelled` is called on the slice and the number from before; the borrow is closed at the new struct.
 -- The struct is Copy: what it owns is had twice at each call, one copy is kept whole, and of the other what bytes owns goes to the callee, beside
 -- the lifetime's token, which comes back. All that the proof knows of the two callees is that each meets its contract.
 use mathlib.Core.Path.{_≡_, refl, ap}
@@ -47,20 +47,20 @@ use denote.Triple.Table.{entered, cited}
 use denote.Triple.Walked.{says, Stays, stay-ref, walkOf, goes-ref, Walks, ends-at, walked, walk-meets}
 use denote.Enum.Laws as EL
 use denote.Struct.Laws as LL
-use Rattle.number.specs.declared.Number.{Number}
-use Rattle.number.specs.Number.{readNumber}
+use Rattle.number.specs.declared.Spelled.{Spelled}
+use Rattle.number.specs.Shortest.{readSpelled}
 use Rattle.reader.specs.Reader.{afterNumber, numberAnswer}
 use Rattle.reader.specs.declared.Reader.{Reader}
-use Rattle.number.proofs.read.Symbol.{name as #number·read}
+use Rattle.number.proofs.read_spelled.Symbol.{name as #number·read-spelled}
 use Rattle.reader.proofs.next_offset.Symbol.{name as #reader·next-offset}
 use Rattle.reader.proofs.next.Key.{name as #reader·next}
 use Rattle.reader.proofs.Reader as T
 use Rattle.reader.proofs.Reader.Laws as T′
-use Rattle.number.proofs.Number as S
-use Rattle.number.proofs.Number.Laws as S′
-use Rattle.number.proofs.read as read
-use Rattle.number.proofs.read.Symbol as read-def
-use Rattle.number.proofs.read.Met as read-thm
+use Rattle.number.proofs.Spelled as S
+use Rattle.number.proofs.Spelled.Laws as S′
+use Rattle.number.proofs.read_spelled as read
+use Rattle.number.proofs.read_spelled.Symbol as read-def
+use Rattle.number.proofs.read_spelled.Met as read-thm
 use Rattle.reader.proofs.next_offset as offset
 use Rattle.reader.proofs.next_offset.Symbol as offset-def
 use Rattle.reader.proofs.next_offset.Met as offset-thm
@@ -110,8 +110,8 @@ module _ {M : Type 1} (𝓤 : URA M) (H : Heap 𝓤) (A : Atoms 𝓤) (W : Given
   v = sliceVal (h .bytes .ptr) (length (h .bytes .now))
 
   -- what the callees answer
-  abbrev found : Number
-  found = readNumber (now (h .bytes)) (h .at)
+  abbrev found : Spelled
+  found = readSpelled (now (h .bytes)) (h .at)
 
   abbrev after : ℕ
   after = afterNumber (now (h .bytes)) (h .at)
@@ -178,20 +178,20 @@ module _ {M : Type 1} (𝓤 : URA M) (H : Heap 𝓤) (A : Atoms 𝓤) (W : Given
   offset-said : (n : ℕ) → ent 𝓤 (Offset-ensured n) (fact 𝓤 (n ≡ after))
   offset-said n = exE 𝓤 _ (λ ws. snd∗ 𝓤 (sem 𝓤 H A (lasts offset.ended (κ′, tt) vh ws)) (fact 𝓤 (n ≡ after)))
 
-  -- the call of `number::read`, likewise
+  -- the call of `number::read_spelled`, likewise
   abbrev to-read : Read 𝓤 H A at-mem run .Ghost
   to-read = (((κ′, tt), (q′, tt), tt, vh, passed), tt)
 
   asked-read : ent 𝓤 (onEntry 𝓤 H A read.signature (κ′, tt) (q′, tt) vh passed) (Read 𝓤 H A at-mem run .pre to-read)
   asked-read = qed W (token ∷ ‵ Passed ∷ []) ∵ join ! $ frame ! $ done !
 
-  abbrev Read-ensured : Number → SProp 𝓤
+  abbrev Read-ensured : Spelled → SProp 𝓤
   Read-ensured t = ensured 𝓤 H A read.ended (read.clauses 𝓤 H A at-mem run) (κ′, tt) vh tt t
 
   abbrev read-gave : Val → Item 𝓤
-  read-gave u = later (some (λ (t : Number). (token ⊛ ‵ (S.the-row .own t (u ∷ []))) ⊛ raw (Read-ensured t)))
+  read-gave u = later (some (λ (t : Spelled). (token ⊛ ‵ (S.the-row .own t (u ∷ []))) ⊛ raw (Read-ensured t)))
 
-  read-said : (t : Number) → ent 𝓤 (Read-ensured t) (fact 𝓤 (t ≡ found))
+  read-said : (t : Spelled) → ent 𝓤 (Read-ensured t) (fact 𝓤 (t ≡ found))
   read-said t = exE 𝓤 _ (λ ws. snd∗ 𝓤 (sem 𝓤 H A (lasts read.ended (κ′, tt) vh ws)) (fact 𝓤 (t ≡ found)))
 
   -- what bytes owns is kept, and at's facts are made anew
@@ -201,11 +201,11 @@ module _ {M : Type 1} (𝓤 : URA M) (H : Heap 𝓤) (A : Atoms 𝓤) (W : Given
       move ! (1 ∷ 0 ∷ []) $ by ! (own-put 𝓤 H A W D L 1 vh n (mach (h .at)))
 
   -- what is had at exit
-  abbrev ending : ℕ → Number → Val → List (Item 𝓤)
+  abbrev ending : ℕ → Spelled → Val → List (Item 𝓤)
   ending n t u =
       ‵ (fobs γ (B κ′ .coded .code (moved n))) ∷ ‵ (fbor κ (Body (mem (B κ′)) b o γ)) ∷ ‵ (flft κ q) ∷ ‵ (S.the-row .own t (u ∷ [])) ∷ token ∷ []
 
-  exits : (n : ℕ) (t : Number) (u : Val) → n ≡ after → t ≡ found → ent 𝓤 (⋆ 𝓤 H A (ending n t u)) (Post u)
+  exits : (n : ℕ) (t : Spelled) (u : Val) → n ≡ after → t ≡ found → ent 𝓤 (⋆ 𝓤 H A (ending n t u)) (Post u)
   exits n t u e e′ =
       qed W (ending n t u) ∵
       suffices ! _
@@ -216,7 +216,7 @@ module _ {M : Type 1} (𝓤 : URA M) (H : Heap 𝓤) (A : Atoms 𝓤) (W : Given
 
   module _ (C : Calls 𝓤 H) (Λ : Loops 𝓤 H) (fm : FmC 𝓤 H (W .laws) C)
       (known-offset : Triple 𝓤 (C #reader·next-offset) (Offset 𝓤 H A at-mem run))
-      (known-read : Triple 𝓤 (C #number·read) (Read 𝓤 H A at-mem run)) where
+      (known-read : Triple 𝓤 (C #number·read-spelled) (Read 𝓤 H A at-mem run)) where
     walk : ent 𝓤 (onEntry 𝓤 H A next.signature (κ, (κ′, tt)) (q, (q′, tt)) x vals) (WpFn 𝓤 H C Λ code.function (vptr b o ∷ []) Post)
     walk =
         qed W ((‵ (flft κ q) ⊛ ‵ (flft κ′ q′) ⊛ ‵ ftrue) ∷ ‵ (owns (MutRef (named 0) κ (B κ′) ∷ []) x vals) ∷ []) ∵
@@ -248,7 +248,7 @@ module _ {M : Type 1} (𝓤 : URA M) (H : Heap 𝓤) (A : Atoms 𝓤) (W : Given
         rewrite ! 8 (λ (u : Val). ‵ (fat fullShare (tyInt w64) l₄ 0 u)) (ap only (is .0)) refl $
         assigns ! (of-opd ! (load ! (from ! (stop !)) (look ! 8 refl))) (from ! (hop ! (look ! 14 refl) (fld ! refl (stop !))))
         (store-in ! 3 (sub ! 1 refl (whole !)) (tt, record { fits = is .1 })) $
-        -- `number::read` is called, and its answer is the result
+        -- `number::read_spelled` is called, and its answer is the result
         drop ! $ move ! (1 ∷ []) $ use1 W (‵ Passed ⊛ ‵ (Own (h .at))) (apart (typed was .1 .1 .0 .fits)) $ split ! $
         move ! (2 ∷ 0 ∷ []) $ use2 W (raw (Read 𝓤 H A at-mem run .pre to-read)) asked-read $
         calls-at ! fm (Read 𝓤 H A at-mem run) known-read to-read
@@ -272,7 +272,7 @@ module _ {M : Type 1} (𝓤 : URA M) (H : Heap 𝓤) (A : Atoms 𝓤) (W : Given
 
 module _ {M : Type 1} (𝓤 : URA M) (H : Heap 𝓤) (A : Atoms 𝓤) (W : Given 𝓤 H A) (mem : Memory → SProp 𝓤) (run : Routine → Fun 𝓤) where
   next-walks : (C : Calls 𝓤 H) (Λ : Loops 𝓤 H) → FmC 𝓤 H (W .laws) C
-      → Triple 𝓤 (C #reader·next-offset) (Offset 𝓤 H A mem run) → Triple 𝓤 (C #number·read) (Read 𝓤 H A mem run)
+      → Triple 𝓤 (C #reader·next-offset) (Offset 𝓤 H A mem run) → Triple 𝓤 (C #number·read-spelled) (Read 𝓤 H A mem run)
       → Walks 𝓤 H A next.ended stayed (WpFn 𝓤 H C Λ code.function) (next.clauses 𝓤 H A mem run)
   next-walks C Λ fm known-offset known-read =
       walked 𝓤 H A next.ended stayed (next.clauses 𝓤 H A mem run) (WpFn 𝓤 H C Λ code.function)
@@ -282,7 +282,7 @@ module _ {M : Type 1} (𝓤 : URA M) (H : Heap 𝓤) (A : Atoms 𝓤) (W : Given
       C Λ fm known-offset known-read))
 
   next-meets : (𝓣 : Tables 𝓤 H)
-      → Triple 𝓤 (𝓣 .C #reader·next-offset) (Offset 𝓤 H A mem run) → Triple 𝓤 (𝓣 .C #number·read) (Read 𝓤 H A mem run)
+      → Triple 𝓤 (𝓣 .C #reader·next-offset) (Offset 𝓤 H A mem run) → Triple 𝓤 (𝓣 .C #number·read-spelled) (Read 𝓤 H A mem run)
       → Meets 𝓤 H A next.signature (WpFn 𝓤 H (𝓣 .C) (𝓣 .Λ) code.function) (next.spec 𝓤 H A mem run)
   next-meets 𝓣 known-offset known-read =
       walk-meets 𝓤 H A next.ended stayed W (goes-ref 𝓤 H A W 2 0 tt behind, tt) (next.clauses 𝓤 H A mem run)
@@ -297,4 +297,4 @@ next-spec 𝓤 H 𝓜 𝓖 𝓡 =
     (next-meets 𝓤 H (𝓖 .A) (givenOf 𝓤 H 𝓜 𝓖) (𝓜 .mem) (𝓡 .run) (tablesOf 𝓤 H 𝓜 (tables 𝓤 H 𝓜 𝓡 code.env))
     (cited 𝓤 H (Offset 𝓤 H (𝓖 .A) (𝓜 .mem) (𝓡 .run)) 𝓜 𝓡 code.env #reader·next-offset offset-def.routine
     code.calls-reader·next-offset (offset-thm.met 𝓤 H 𝓜 𝓖 𝓡))
-    (cited 𝓤 H (Read 𝓤 H (𝓖 .A) (𝓜 .mem) (𝓡 .run)) 𝓜 𝓡 code.env #number·read read-def.routine code.calls-number·read (read-thm.met 𝓤 H 𝓜 𝓖 𝓡)))
+    (cited 𝓤 H (Read 𝓤 H (𝓖 .A) (𝓜 .mem) (𝓡 .run)) 𝓜 𝓡 code.env #number·read-spelled read-def.routine code.calls-number·read-spelled (read-thm.met 𝓤 H 𝓜 𝓖 𝓡)))

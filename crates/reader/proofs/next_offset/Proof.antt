@@ -1,16 +1,39 @@
--- The two ways out are the two laws of the offset after a number.
+-- The three ways out, by what is told of the number.
 use borrow.Author.Needs.{needs}
 use mathlib.Core.Path.{sym, _∙_}
-use Rattle.reader.proofs.Laws.{after-value, after-refused}
+use Rattle.reader.proofs.Laws.{after-told}
 use Rattle.reader.proofs.next_offset.Statement.{statement}
 use Rattle.reader.proofs.next_offset.Tie as tie
+
+read-spelled-requires : tie.Need-read-spelled-requires
+read-spelled-requires c κs = search needs
+
+enum-known-next : tie.Need-enum-known-next
+enum-known-next c = search needs
+
+enum-known-next-2 : tie.Need-enum-known-next-2
+enum-known-next-2 c = search needs
+
+enum-told : tie.Need-enum-told
+enum-told c = search needs
+
+returns : tie.Need-returns
+returns c = sym (after-told _ _ _ (sym (c .before .before .before .read-spelled .ensures) ∙ c .before .next .given .1))
+
+returns-2 : tie.Need-returns-2
+returns-2 c = sym (after-told _ _ _ (sym (c .before .before .before .read-spelled .ensures) ∙ c .before .next2 .given .1))
+
+returns-3 : tie.Need-returns-3
+returns-3 c = sym (after-told _ _ _ (sym (c .before .before .read-spelled .ensures) ∙ c .enum-told .given .1))
 
 pub next-offset-spec : {M : Type 1} → statement M
 next-offset-spec =
     tie.close
     (tie.spec
-    (λ c κs. search needs)
-    (λ c. search needs)
-    (λ c. search needs)
-    (λ c. sym (after-value _ _ _ _ (sym (c .before .before .before .read .ensures) ∙ c .before .next .given .1)))
-    (λ c. sym (after-refused _ _ _ (sym (c .before .before .read .ensures) ∙ c .enum-told .given .1))))
+    read-spelled-requires
+    enum-known-next
+    enum-known-next-2
+    enum-told
+    returns
+    returns-2
+    returns-3)

@@ -45,7 +45,7 @@ use denote.Triple.Walked.{says, Stays, stay-none, stay-none-slice, walkOf, goes-
 use denote.Exit.{yes}
 use denote.Enum.Laws as EL
 use denote.Struct.Laws as LL
-use Rattle.number.specs.declared.Number.{Number}
+use Rattle.number.specs.declared.Spelled.{Spelled}
 use Rattle.reader.specs.declared.Reader.{Reader}
 use Rattle.reader.specs.Reader.{nextNumber, numberAnswer, nextAnswer, advanced}
 use Rattle.reader.proofs.new.Symbol.{name as #reader·new}
@@ -53,8 +53,8 @@ use Rattle.reader.proofs.next.Symbol.{name as #reader·next}
 use Rattle.reader_cases.specs.declared.Reply.{Reply}
 use Rattle.reader_cases.specs.Replied.{readerAt, replied}
 use Rattle.reader_cases.proofs.next_at.Key.{name as #reader-cases·next-at}
-use Rattle.number.proofs.Number as S
-use Rattle.number.proofs.Number.Laws as S′
+use Rattle.number.proofs.Spelled as S
+use Rattle.number.proofs.Spelled.Laws as S′
 use Rattle.reader.proofs.Reader as T
 use Rattle.reader.proofs.Reader.Laws as T′
 use Rattle.reader.proofs.new as new
@@ -194,19 +194,19 @@ module _ {M : Type 1} (𝓤 : URA M) (H : Heap 𝓤) (A : Atoms 𝓤) (W : Given
       move ! (0 ∷ 1 ∷ []) $ join ! $ frame ! $ done !
 
   -- what `next` answers, and the reader that it leaves
-  abbrev found : Number
+  abbrev found : Spelled
   found = nextNumber (readerAt s n)
 
   abbrev after : ℕ
   after = advanced (readerAt s n) .at
 
-  abbrev Next-ensured : ℕ → ℕ → GName → Number → SProp 𝓤
+  abbrev Next-ensured : ℕ → ℕ → GName → Spelled → SProp 𝓤
   Next-ensured l α γ t = ensured 𝓤 H A next.ended (next.clauses 𝓤 H A at-mem run) (α ∷ κ, (κ, tt)) (lent l γ) tt t
 
-  abbrev Said : Number → Reader → Type 0
+  abbrev Said : Spelled → Reader → Type 0
   Said t h = (numberAnswer t ≡ nextAnswer (readerAt s n)) × (t ≡ found) × (h ≡ readerAt s after)
 
-  next-said : (l α : ℕ) (γ : GName) (t : Number) → ent 𝓤 (Next-ensured l α γ t)
+  next-said : (l α : ℕ) (γ : GName) (t : Spelled) → ent 𝓤 (Next-ensured l α γ t)
       (sep 𝓤 (A .res γ (B .coded .code (readerAt s after))) (fact 𝓤 (t ≡ found)))
   next-said l α γ t =
       qed W (raw (Next-ensured l α γ t) ∷ []) ∵
@@ -215,21 +215,21 @@ module _ {M : Type 1} (𝓤 : URA M) (H : Heap 𝓤) (A : Atoms 𝓤) (W : Given
       rewrite ! 0 (λ (h : Reader). ‵ (fres γ (B .coded .code h))) (e .2) refl $ says ! (e .1) $ keep ! (0 ∷ []) $ done !))
 
   -- what is returned
-  abbrev reply : Number → Reply
+  abbrev reply : Spelled → Reply
   reply t = record { number = t; at = after }
 
   -- the machine values of a number and of the reply
-  abbrev word : Number → Val
+  abbrev word : Spelled → Val
   word t = EL.val S.the-type S′.the-laws t
 
-  abbrev words : Number → Val
+  abbrev words : Spelled → Val
   words t = LL.val Q.the-type Q′.the-laws (reply t)
 
-  typed-reply : (t : Number) → Is S.the-row t (word t ∷ []) → after < 2 ^ 64 → Holds (hasTy Q′.mir (words t)) × WT (words t)
+  typed-reply : (t : Spelled) → Is S.the-row t (word t ∷ []) → after < 2 ^ 64 → Holds (hasTy Q′.mir (words t)) × WT (words t)
   typed-reply t is fits =
       LL.lawful Q.the-type Q′.the-laws 𝓤 H A W .typed (reply t) _ (LL.owes Q.the-type Q′.the-laws (reply t) (is, ((refl, fits), tt))) .0
 
-  exits : (t : Number) → t ≡ found → after < 2 ^ 64
+  exits : (t : Spelled) → t ≡ found → after < 2 ^ 64
       → ent 𝓤 (⋆ 𝓤 H A (‵ (S.the-row .own t (word t ∷ [])) ∷ ‵ (flft κ q) ∷ ‵ Own ∷ [])) (Post (words t))
   unfolding replied
   exits t e fits =
@@ -277,7 +277,7 @@ module _ {M : Type 1} (𝓤 : URA M) (H : Heap 𝓤) (A : Atoms 𝓤) (W : Given
         use3 W (raw (Next 𝓤 H A at-mem run .pre (to-next l₃ α γ))) (asked-next l₃ α γ) $
         -- [what is asked; what is kept; true; what the slice owns; _7; …; _6; …; _5; …; _4; …; …; _2; …; _1; …; room for _0; …]
         calls-at ! fm (Next 𝓤 H A at-mem run) known-next (to-next l₃ α γ) (and-then ! (load ! (from ! (stop !)) (look ! 6 refl)) (no-more !)) (λ w.
-        use1 W (later (some (λ (t : Number). ((right α ⊛ left ⊛ ‵ ftrue) ⊛ ‵ (S.the-row .own t (w ∷ []))) ⊛ raw (Next-ensured l₃ α γ t)))) (id⊢ 𝓤 _) $
+        use1 W (later (some (λ (t : Spelled). ((right α ⊛ left ⊛ ‵ ftrue) ⊛ ‵ (S.the-row .own t (w ∷ []))) ⊛ raw (Next-ensured l₃ α γ t)))) (id⊢ 𝓤 _) $
         await ! tt $ pick ! (λ t. split ! $ move ! (1 ∷ []) $
         use1 W (‵ (fres γ (B .coded .code (readerAt s after))) ⊛ raw (fact 𝓤 (t ≡ found))) (next-said l₃ α γ t) $
         split ! $ move ! (1 ∷ []) $ heard ! (t ≡ found) (λ e′. move ! (1 ∷ []) $ split ! $ move ! (1 ∷ []) $

@@ -1,4 +1,4 @@
--- The edge is a number, judged by 1 and 2.
+-- The edge is a number, judged by 1, 2 and 15.
 use mathlib.Core.Path.{sym, ap, _∙_}
 use borrow.Author.Needs.{needs}
 use Rattle.number.specs.Number.{numberRefusal}

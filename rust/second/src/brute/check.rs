@@ -1,18 +1,22 @@
 //! The check of evidence, literally by the rules.
 
 use super::read::{spelled, Spelled};
+use super::spellings::is_shortest;
 use super::states::States;
 use super::Brute;
 
 /// A place in spelled evidence.
-struct Cursor {
-    spelled: Spelled,
+struct Cursor<'a> {
+    spelled: Spelled<'a>,
     at: usize,
 }
 
-impl Cursor {
+impl Cursor<'_> {
     fn take(&mut self) -> Result<u32, u8> {
         let number = self.spelled.get(self.at)?;
+        if !is_shortest(self.spelled.forms[self.at]) {
+            return Err(15);
+        }
         self.at += 1;
         Ok(number)
     }

@@ -21,35 +21,46 @@ pub struct PlanEdge {
     pub guard: Vec<(u32, u32)>,
 }
 
-/// The numbers that bytes spell, and the refusal that stands after the last
-/// of them if the bytes do not end there.
-pub struct Spelled {
+/// The numbers that bytes spell, each also as its bytes, and the refusal that
+/// stands after the last of them if the bytes do not end there.
+pub struct Spelled<'a> {
     pub numbers: Vec<u32>,
+    pub forms: Vec<&'a [u8]>,
     pub broken: Option<u8>,
 }
 
-pub fn spelled(bytes: &[u8]) -> Spelled {
-    let mut numbers = Vec::new();
+/// The value of bytes that are one number and nothing more.
+pub fn value_of(bytes: &[u8]) -> Option<u32> {
+    let ends = |at: usize| bytes[at] < 128;
+    let whole = (1..=NUMBER_BYTES).contains(&bytes.len())
+        && (0..bytes.len()).all(|at| ends(at) == (at + 1 == bytes.len()));
+    let digits = bytes.iter().rev().map(|&byte| u32::from(byte % 128));
+    whole.then(|| digits.fold(0, |value, digit| value * 128 + digit))
+}
+
+pub fn spelled(bytes: &[u8]) -> Spelled<'_> {
+    let (mut numbers, mut forms) = (Vec::new(), Vec::new());
+    let mut broken = None;
     let mut rest = bytes;
     while !rest.is_empty() {
-        let Some(last) = rest.iter().take(NUMBER_BYTES).position(|&byte| byte < 128) else {
-            let broken = if rest.len() < NUMBER_BYTES { 1 } else { 2 };
-            return Spelled {
-                numbers,
-                broken: Some(broken),
-            };
+        let mut starts = (1..=rest.len().min(NUMBER_BYTES)).map(|length| rest.split_at(length));
+        let whole = |(form, after)| value_of(form).map(|value| (value, form, after));
+        let Some((value, form, after)) = starts.find_map(whole) else {
+            broken = Some(if rest.len() < NUMBER_BYTES { 1 } else { 2 });
+            break;
         };
-        let digits = rest[..=last].iter().rev();
-        numbers.push(digits.fold(0, |value, &byte| value * 128 + u32::from(byte % 128)));
-        rest = &rest[last + 1..];
+        numbers.push(value);
+        forms.push(form);
+        rest = after;
     }
     Spelled {
         numbers,
-        broken: None,
+        forms,
+        broken,
     }
 }
 
-impl Spelled {
+impl Spelled<'_> {
     pub fn get(&self, index: usize) -> Result<u32, u8> {
         self.numbers
             .get(index)

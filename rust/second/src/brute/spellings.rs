@@ -1,8 +1,20 @@
-//! The spellings of a plan, by trial: bytes are put in the place of a number,
-//! or appended one by one, and what reads as the same plan is kept.
+//! Spellings, by trial. Of a number: all shorter bytes are tried. Of a plan:
+//! bytes are put in the place of a number, or appended one by one, and what
+//! reads as the same plan is kept.
 
-use super::read::read;
+use super::read::{read, value_of};
 use crate::limits::NUMBER_BYTES;
+
+/// Whether no fewer bytes spell the number that these bytes are.
+pub fn is_shortest(number: &[u8]) -> bool {
+    let value = value_of(number);
+    assert!(value.is_some(), "{number:?} is no number");
+    let spells_it = |bytes: &[u8]| value_of(bytes) == value;
+    !(1..number.len()).any(|length| {
+        let mut all = 0..256u32.pow(length as u32);
+        all.any(|bytes| spells_it(&bytes.to_be_bytes()[4 - length..]))
+    })
+}
 
 /// For each number of an accepted plan, in order, the bytes that may stand in
 /// its place: the plan read is the same. Numbers up to `most` are tried, in

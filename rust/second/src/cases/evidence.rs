@@ -10,7 +10,7 @@ use crate::model::read_model;
 use crate::numbers::{numbers_of, push_padded};
 
 /// One clock, ceiling 1, one location: three states in a row.
-const LINE: [u8; 8] = [1, 1, 1, 1, 0, 0, 0, 0];
+pub const LINE: [u8; 8] = [1, 1, 1, 1, 0, 0, 0, 0];
 
 /// One clock, ceiling 1, two locations with an edge at 1 that keeps the clock.
 const TWO: [u8; 15] = [1, 1, 1, 2, 1, 0, 0, 0, 0, 0, 0, 1, 0, 1, 1];
@@ -26,7 +26,7 @@ pub const LOOP: [u8; 46] = [
 ];
 
 /// Its passing trail there.
-const LOOP_TRAIL: [u8; 34] = [
+pub const LOOP_TRAIL: [u8; 34] = [
     2, 8, 0, 0, 1, 0, 0, 1, 1, 3, 0, 1, 0, 1, 10, 0, 0, 1, 2, 0, 0, 0, 0, 0, 0, 1, 1, 2, 0, 2, 0,
     0, 1, 3,
 ];
@@ -42,12 +42,16 @@ pub const SMALL_LOOP: [u8; 36] = [
 
 /// Three clocks, ceiling 1: an edge that resets all of them, and one to a
 /// forbidden location with a stay limit of 0 for the third clock.
-const CUBE: [u8; 32] = [
+pub const CUBE: [u8; 32] = [
     1, 3, 1, 2, 2, 0, //
     0, 0, 0, 0, 1, 0, 0, 1, //
     0, 0, 7, 1, 1, 0, 1, 1, 1, //
     0, 1, 6, 1, 1, 0, 1, 0, 1,
 ];
+
+/// One clock, ceiling 2: one forbidden location with stay limit 1, and an edge
+/// that resets the clock.
+pub const RING: [u8; 13] = [1, 1, 2, 1, 1, 0, 1, 2, 0, 0, 1, 0, 2];
 
 pub fn evidence(text: &mut Text) {
     line(text);
@@ -64,7 +68,7 @@ pub fn evidence(text: &mut Text) {
 }
 
 /// A plan with one number changed.
-fn changed<const N: usize>(model: [u8; N], at: usize, number: u8) -> [u8; N] {
+pub fn changed<const N: usize>(model: [u8; N], at: usize, number: u8) -> [u8; N] {
     let mut model = model;
     model[at] = number;
     model
@@ -106,7 +110,7 @@ fn line(text: &mut Text) {
         ],
     );
     text.group(
-        "01's sheet, and with padded numbers",
+        "01's sheet; refused with padded numbers",
         &[&[1, 5, 3, 1], &[129, 128, 0, 133, 0, 3, 129, 0]],
     );
     text.group(
@@ -184,7 +188,7 @@ fn small_plans(text: &mut Text) {
     );
     text.operations("no margin; harm at once", &["sheet_margin", "harm"]);
     text.group(
-        "01's trail, padded too, and longer",
+        "01's trail; refused with padded numbers; longer",
         &[&[2, 0], &[130, 0, 128, 128, 0], &[2, 2, 0, 0]],
     );
     text.group(
@@ -197,7 +201,7 @@ fn small_plans(text: &mut Text) {
         "The first with a stay limit of 0.",
     );
     text.group(
-        "0 where a state is not allowed, padded too",
+        "0 where a state is not allowed; refused if padded",
         &[&[1, 1, 0, 0], &[1, 5, 0, 128, 128, 0]],
     );
     text.group(
@@ -212,10 +216,9 @@ fn small_plans(text: &mut Text) {
         "Two locations without an edge, the second one forbidden.",
     );
     text.group("out, in", &[&[1, 5, 3, 1, 4, 2, 0], &[1, 5, 3, 1, 5, 3, 1]]);
-    let ring = [1, 1, 2, 1, 1, 0, 1, 2, 0, 0, 1, 0, 2];
     text.plan(
         "ring",
-        &ring,
+        &RING,
         "One forbidden location with stay limit 1 at ceiling 2, and an edge that resets the clock.",
     );
     text.group(
@@ -305,7 +308,7 @@ fn loop_trails(text: &mut Text) {
         &[&trail, &trail[..33], &changed(trail, 33, 2)],
     );
     text.group(
-        "padded; with a byte more",
+        "each number padded; with a byte more",
         &[&padded(&trail), &[&trail[..], &[0]].concat()],
     );
     text.group(
@@ -467,7 +470,7 @@ fn ours(text: &mut Text, graph: &Graph) {
     );
     // Short evidence only, so that a reader needs no more than 256 bytes.
     if ours.len() <= 64 {
-        text.group("ours, padded", &[&padded(&ours)]);
+        text.group("ours, each number padded", &[&padded(&ours)]);
     }
 }
 
@@ -590,5 +593,6 @@ fn refused_plans(text: &mut Text) {
             text.line(operation);
         }
         text.bytes(&[9]);
+        text.bytes(&[137, 0]);
     }
 }

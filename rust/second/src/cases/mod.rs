@@ -4,6 +4,7 @@
 mod answers;
 mod evidence;
 mod operations;
+mod padding;
 mod plans;
 mod reading;
 pub mod rules;
@@ -27,6 +28,7 @@ const EVIDENCE: usize = 2_000;
 pub fn cases() -> String {
     let mut text = Text::default();
     evidence::evidence(&mut text);
+    padding::padding(&mut text);
     reading::reading(&mut text);
     operations::operations(&mut text);
     plans::plans(&mut text);
