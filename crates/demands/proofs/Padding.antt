@@ -14,7 +14,7 @@ use Rattle.number.specs.Shortest.{AreBytes}
 use Rattle.number.specs.Sequence.{SpelledBy, SpellsAll, SpellsShortest}
 use Rattle.number.specs.Answer.{Answer}
 use Rattle.number.proofs.Laws.{read-value, read-none, spells-some}
-use Rattle.number.proofs.Sequence.{plain, not-value, value-within, spelled, spelled-fit, shortest-spells, shortest-sequence, one-spelling}
+use Rattle.number.proofs.Sequence.{plain, not-value, value-within, spelled, spelled-fit, in-any-form, shortest-sequence, one-spelling}
 use Rattle.model.specs.declared.Model.{Model}
 use Rattle.evidence.specs.declared.Evidence.{Evidence}
 use Rattle.call.specs.Call.{modelOf, refusal}
@@ -29,7 +29,7 @@ use Rattle.number.proofs.Sequence as sequence
 
 -- bytes without padding spell no other numbers, by the old rules either
 unpadded-only : {bs : List ℕ} (vs : List ℕ) → SpellsAll bs vs → Unpadded bs → SpellsShortest bs vs
-unpadded-only {bs} vs s (ws, t) = subst (SpellsShortest bs) (sequence.spelled-once plain ws vs (shortest-spells t) s) t
+unpadded-only {bs} vs s (ws, t) = subst (SpellsShortest bs) (sequence.spelled-once plain ws vs (in-any-form t) s) t
 
 respelled-all : {bs vs : List ℕ} → SpellsAll bs vs → Respelled bs (spellAll vs)
 unfolding spellAll
@@ -44,13 +44,13 @@ module _ (bytes lent : List ℕ) (taken : refusal bytes lent ≡ 0) (shown : Lis
 
   pub sheet-as-before : (checkAnswer bytes shown lent ≡ kindAnswer 1) ↔ (SheetPassedBefore m shown × Unpadded shown)
   sheet-as-before = (
-    λ e. let (l, s, K) = sheet-exactly bytes lent taken shown .0 e in ((l, shortest-spells s, K), (1 ∷ l, s)),
+    λ e. let (l, s, K) = sheet-exactly bytes lent taken shown .0 e in ((l, in-any-form s, K), (1 ∷ l, s)),
     λ ((l, s, K), u). sheet-exactly bytes lent taken shown .1 (l, unpadded-only _ s u, K),
   )
 
   pub trail-as-before : (checkAnswer bytes shown lent ≡ kindAnswer 2) ↔ (TrailPassedBefore m shown × Unpadded shown)
   trail-as-before = (
-    λ e. let (vs, s, w) = trail-exactly bytes lent taken shown .0 e in ((vs, shortest-spells s, w), (_, s)),
+    λ e. let (vs, s, w) = trail-exactly bytes lent taken shown .0 e in ((vs, in-any-form s, w), (_, s)),
     λ ((vs, s, w), u). trail-exactly bytes lent taken shown .1 (vs, unpadded-only _ s u, w),
   )
 

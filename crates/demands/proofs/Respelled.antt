@@ -41,7 +41,7 @@ use Rattle.evidence.specs.declared.Evidence.the-variants as evidence
 
 -- ---- shorter, and as empty
 
-pub respelled-shorter : {xs ys : List ℕ} → Respelled xs ys → length ys ≤ length xs
+respelled-shorter : {xs ys : List ℕ} → Respelled xs ys → length ys ≤ length xs
 respelled-shorter (Respelled.rest xs n) = omega arith
 respelled-shorter (Respelled.more {g = g} {bs = xs} {cs = ys} {v = v} k t) =
     omega (arith, length-append g xs, length-append (spell v) ys, spell-shortest k, respelled-shorter t)

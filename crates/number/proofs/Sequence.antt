@@ -94,6 +94,12 @@ drop-take (b ∷ bs) (suc n) (suc i) h k =
 pub rest-at : (bs : List ℕ) (at : ℕ) (g rest : List ℕ) → drop at bs ≡ g ++ rest → drop (at + length g) bs ≡ rest
 rest-at bs at g rest e = sym (drop-drop (length g) at bs) ∙ ap (drop (length g)) e ∙ drop-append-seam g rest
 
+-- where a relation allows the shortest form of each number, those of several spell them
+spell-each : {R : List ℕ → ℕ → Type 0} → ((v : ℕ) → v < 2 ^ 21 → R (spell v) v) → (vs : List ℕ) → Fit vs → SpelledBy R (spellAll vs) vs
+unfolding spellAll
+spell-each f [] h = SpelledBy.none
+spell-each f (v ∷ vs) h = SpelledBy.more (f v (h v (List·Memᴰ·head refl))) (spell-each f vs (λ w k. h w (List·Memᴰ·tail k)))
+
 module _ {read : List ℕ → ℕ → Number} {R : List ℕ → ℕ → Type 0} (L : Reading read R) where
   module _ (bs : List ℕ) (at v to : ℕ) (e : read bs at ≡ Value v to) where
     pub read-within : (at < to) × (to ≤ length bs)
@@ -170,8 +176,7 @@ module _ {read : List ℕ → ℕ → Number} {R : List ℕ → ℕ → Type 0} 
   pub first-spelled : (bs vs : List ℕ) (v to : ℕ) → read bs 0 ≡ Value v to → SpelledBy R (drop to bs) vs → SpelledBy R bs (v ∷ vs)
   first-spelled bs vs v to e s =
       let (g, rest, d, k, q) = L .value bs 0 v to .0 e in
-      let z : to ≡ length g = omega arith in
-      let t : drop to bs ≡ rest = ap (λ (n : ℕ). drop n bs) z ∙ (ap (drop (length g)) d ∙ drop-append-seam g rest) in
+      let t : drop to bs ≡ rest = ap (λ (n : ℕ). drop n bs) q ∙ rest-at bs 0 g rest d in
       subst (λ (l : List ℕ). SpelledBy R l (v ∷ vs)) (sym d) (SpelledBy.more k (subst (λ (l : List ℕ). SpelledBy R l vs) t s))
 
   -- bytes spell one list of numbers
@@ -187,9 +192,7 @@ module _ {read : List ℕ → ℕ → Number} {R : List ℕ → ℕ → Type 0} 
 
   -- shortest forms spell their numbers
   pub shortest-spelled : (vs : List ℕ) → Fit vs → SpelledBy R (spellAll vs) vs
-  unfolding spellAll
-  shortest-spelled [] h = SpelledBy.none
-  shortest-spelled (v ∷ vs) h = SpelledBy.more (L .shortest v (h v (List·Memᴰ·head refl))) (shortest-spelled vs (λ w k. h w (List·Memᴰ·tail k)))
+  shortest-spelled = spell-each (L .shortest)
 
 -- ---- numbers whose padding is allowed
 
@@ -255,9 +258,9 @@ spelled-fit (SpelledBy.more k s) = fit-more (spells-bound k) (spelled-fit s)
 
 -- ---- numbers in shortest form
 
-pub shortest-spells : {bs vs : List ℕ} → SpellsShortest bs vs → SpellsAll bs vs
-shortest-spells SpelledBy.none = SpelledBy.none
-shortest-spells (SpelledBy.more k s) = SpelledBy.more (k .spells) (shortest-spells s)
+pub in-any-form : {bs vs : List ℕ} → SpellsShortest bs vs → SpellsAll bs vs
+in-any-form SpelledBy.none = SpelledBy.none
+in-any-form (SpelledBy.more k s) = SpelledBy.more (k .spells) (in-any-form s)
 
 shortest-total : {bs vs : List ℕ} → SpellsShortest bs vs → length bs ≡ length (spellAll vs)
 unfolding spellAll
@@ -279,21 +282,18 @@ total-shortest (SpelledBy.more {g = g} {bs = bs} {vs = vs} {v = v} k s) h =
 -- each number in shortest form: the bytes spell the numbers, and no spelling of them has fewer
 pub shortest-sequence : {bs vs : List ℕ} → SpellsShortest bs vs ↔ (SpellsAll bs vs × ((cs : List ℕ) → SpellsAll cs vs → length bs ≤ length cs))
 shortest-sequence = (
-  λ s. (shortest-spells s, λ cs t. omega (arith, shortest-total s, spelled-shortest t)),
+  λ s. (in-any-form s, λ cs t. omega (arith, shortest-total s, spelled-shortest t)),
   λ (s, least). total-shortest s (least _ (spelled _ (spelled-fit s))),
 )
 
 -- what we write is in shortest form, and of bytes nothing else is: the numbers determine them
 pub spell-all-shortest : (vs : List ℕ) → Fit vs → SpellsShortest (spellAll vs) vs
-unfolding spellAll
-spell-all-shortest [] h = SpelledBy.none
-spell-all-shortest (v ∷ vs) h =
-    SpelledBy.more (spell-is-shortest v (h v (List·Memᴰ·head refl))) (spell-all-shortest vs (λ w k. h w (List·Memᴰ·tail k)))
+spell-all-shortest = spell-each spell-is-shortest
 
 pub one-spelling : {bs vs : List ℕ} → AreBytes bs → SpellsShortest bs vs ↔ ((bs ≡ spellAll vs) × Fit vs)
 unfolding spellAll
 one-spelling {vs = vs} bytes = (
-  λ s. (only bytes s, spelled-fit (shortest-spells s)),
+  λ s. (only bytes s, spelled-fit (in-any-form s)),
   λ (e, f). subst (λ (l : List ℕ). SpellsShortest l vs) (sym e) (spell-all-shortest vs f),
 )
   where

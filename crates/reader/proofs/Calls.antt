@@ -4,7 +4,6 @@ use mathlib.Core.Path.{_≡_, refl, sym, ap, ap₂, subst, _∙_}
 use mathlib.Core.Logic.{_↔_}
 use mathlib.Core.List.{List, [], _∷_, _++_, append-assoc, append-nil}
 use lib.ListN.{length, drop, replicate}
-use lib.Seq.{drop-drop, drop-append-seam}
 use denote.Ref.{now}
 use Rattle.number.specs.declared.Spelled.the-variants.{Refused}
 use Rattle.number.specs.Number.{spellAll}
@@ -12,7 +11,7 @@ use Rattle.number.specs.Shortest.{numberIn}
 use Rattle.number.specs.Sequence.{SpelledBy, SpellsAll, SpellsShortest}
 use Rattle.number.proofs.Laws.{read-none}
 use Rattle.number.proofs.Shortest.{shortest-law, told-refused, number-in}
-use Rattle.number.proofs.Sequence.{Fit, Reads, none, more, spell-reads, spell-all-shortest, shortest-spells}
+use Rattle.number.proofs.Sequence.{Fit, Reads, none, more, rest-at, spell-reads, spell-all-shortest, in-any-form}
 use Rattle.reader.specs.declared.Reader.{Reader}
 use Rattle.reader.specs.Reader.{nextNumber}
 use Rattle.reader.specs.Calls.{answers, afterCalls, GivesBy, Gives, GivesShortest}
@@ -66,7 +65,7 @@ shortest-gives r (SpelledBy.more {g = g} {bs = bs} {vs = vs} {v = v} k s) rest e
     let to = r .at + length g in
     let d = e ∙ append-assoc g bs rest in
     let q = shortest-law (now (r .bytes)) (r .at) v to .1 (g, bs ++ rest, d, k, refl) in
-    let after = sym (drop-drop (length g) (r .at) (now (r .bytes))) ∙ ap (drop (length g)) d ∙ drop-append-seam g (bs ++ rest) in
+    let after = rest-at (now (r .bytes)) (r .at) g (bs ++ rest) d in
     GivesBy.more q
     (subst (λ (p : Reader). GivesShortest (answers (length vs) p) vs) (sym (value-stands r v to (ap numberIn q)))
     (shortest-gives (at-offset r to) s rest after))
@@ -80,7 +79,7 @@ gives-shortest r (v ∷ vs) (GivesBy.more {to = to} q t) =
     let (h, end, f, s) =
     gives-shortest (at-offset r to) vs (subst (λ (p : Reader). GivesShortest (answers (length vs) p) vs) (value-stands r v to (ap numberIn q)) t) in
     let after : drop to (now (r .bytes)) ≡ rest
-    = ap (λ (i : ℕ). drop i (now (r .bytes))) z ∙ sym (drop-drop (length g) (r .at) (now (r .bytes))) ∙ ap (drop (length g)) d ∙ drop-append-seam g rest in
+    = ap (λ (i : ℕ). drop i (now (r .bytes))) z ∙ rest-at (now (r .bytes)) (r .at) g rest d in
     (g ++ h, end, d ∙ ap (λ (l : List ℕ). g ++ l) (sym after ∙ f) ∙ sym (append-assoc g h end), SpelledBy.more k s)
 
 module _ (r : Reader) (vs : List ℕ) where
@@ -93,7 +92,7 @@ module _ (r : Reader) (vs : List ℕ) where
       → GivesShortest (answers (length vs) r) vs × (nextNumber (afterCalls (length vs) r) ≡ Refused 1)
   spelled-gives e z small =
       let s = subst (λ (l : List ℕ). SpellsShortest l vs) (sym (ap₂ drop z e)) (spell-all-shortest vs small) in
-      (shortest-gives r s [] (sym (append-nil (drop (r .at) (now (r .bytes))))), spells-gives r vs (shortest-spells s) .1)
+      (shortest-gives r s [] (sym (append-nil (drop (r .at) (now (r .bytes))))), spells-gives r vs (in-any-form s) .1)
 
 -- ---- a refusal
 

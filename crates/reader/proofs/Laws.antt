@@ -25,10 +25,6 @@ module _ (bs : List ℕ) (at : ℕ) where
   unfolding afterNumber
   after-value v to e = ap (λ (n : Number). onNumber n (λ v to. to) (λ r. at)) e
 
-  pub after-refused : (r : ℕ) → readNumber bs at ≡ number.Refused r → afterNumber bs at ≡ at
-  unfolding afterNumber
-  after-refused r e = ap (λ (n : Number). onNumber n (λ v to. to) (λ r. at)) e
-
   -- by what is told: after a number in either form, and where it is for a refusal
   pub after-told : (s : Spelled) → readSpelled bs at ≡ s → afterNumber bs at ≡ onNumber (numberIn s) (λ v to. to) (λ r. at)
   unfolding afterNumber
@@ -65,7 +61,7 @@ module _ (r : Reader) where
 
   -- "or 1 or 2 and then staying at that number's first byte"
   pub refused-stays : (x : ℕ) → nextNumber r ≡ Refused x → advanced r ≡ r
-  refused-stays x e = ap at-offset (after-refused (now (r .bytes)) (r .at) x (refused-law (now (r .bytes)) (r .at) x .0 e))
+  refused-stays x e = ap at-offset (after-told (now (r .bytes)) (r .at) (Refused x) e)
 
   -- ---- the answer, by the bytes that stand there
 
