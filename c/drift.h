@@ -6,6 +6,11 @@
  * any lengths may be lent. A pointer is never null, not even with length 0,
  * and memory that is written to overlaps no other that is lent to the call.
  *
+ * A plan begins with its mark. It says what a stay field of 0 means: with 1
+ * the ceiling, with 2 the greatest high end for that clock among the edges
+ * that leave the location, or the ceiling where none leaves. The answers are
+ * those of the limits so read; other marks are refused by 3.
+ *
  * Scratch is four slices of S 16-bit numbers each, S being the number of
  * states; more is allowed. A call past number 8 leaves their first S at zero
  * and the rest untouched; earlier, untouched. Output is untouched on refusal.
@@ -120,10 +125,11 @@ uint64_t drift_check_evidence(
     drift_word *s4, size_t s4_length);
 
 /* The shortest form of the plan, from the output's first byte: each number in
- * as few bytes as it takes, and a stay field of M+1 as 0. It reads as the plan
- * does, plans of the same content have the same one, and no spelling is
- * shorter; so an output as long as the model is always enough. The rest of the
- * output is untouched. It needs no scratch. Refusals 1 to 7, then 9.
+ * as few bytes as it takes, and a stay field as 0 where 0 means its limit. It
+ * keeps the mark and reads as the plan does; plans of one mark and of the same
+ * content have the same one, and no such plan is shorter; so an output as long
+ * as the model is always enough. The rest of the output is untouched. It needs
+ * no scratch. Refusals 1 to 7, then 9.
  *
  * The answer: number + 2^16 * bytes written. See drift_written. */
 uint64_t drift_write_plan(

@@ -1,9 +1,10 @@
 -- Which bytes spell which plan: the reader and the paper's form agree.
-use Prim.Native.Nat.{ℕ, _+_, _≤_, _<_}
+use Prim.Native.Nat.{ℕ, _+_, _-_, _≤_, _<_}
 use native.Mathlib.Omega.{arith}
 use mathlib.Core.Path.{_≡_, refl, sym, ap, ap₂, subst, _∙_}
 use mathlib.Core.Logic.{_↔_}
 use mathlib.Core.List.{List, [], _∷_, _++_}
+use mathlib.Core.Bool.{cond}
 use lib.ListN.{getD}
 use lib.Dec.{eqb}
 use borrow.Author.Tests.{eqb-true, eqb-false, ne-eqb}
@@ -14,11 +15,13 @@ use Rattle.model.specs.declared.Model.{Model}
 use Rattle.model.specs.declared.Reading.{Reading}
 use Rattle.model.specs.Each.{gather}
 use Rattle.model.specs.Model.{slot, sourceOf, targetOf, limitAt, lowAt, highAt, Lawful}
-use Rattle.model.specs.Parse.{resolve, parseModel}
+use Rattle.model.specs.Parse.{limitOf, parseModel}
+use Rattle.limits.specs.Limits.{KnownMark}
 use Rattle.model.specs.Cycle.{LeavesUnreset, unreset}
 use Rattle.model.specs.Accept.{judged, readModel, Whole}
 use Rattle.canonical.specs.Canonical.{locationNumbers, guardNumbers, edgeNumbers, numbersOf, Stays, blank, written, SpellsPlan}
 use Rattle.model.proofs.Arrays.{row-ext, grid-ext}
+use Rattle.canonical.proofs.Blanks.{blank-law, default-same}
 use Rattle.model.proofs.Gather.{gather-ext}
 use Rattle.model.proofs.Drafts.{Draft, InRange, draftNumbers, draft-read, read-draft}
 use Rattle.model.proofs.Finals.{final, resolved-draft, final-kind, final-limit, final-source, final-target, final-reset, final-low, final-high, final-lawful, final-tidy}
@@ -27,21 +30,22 @@ use Rattle.model.proofs.Accepted.{accepted-parse, accepted-law, accepted-resets
 
 -- ---- a stay field and its limit
 
-field-stays : (r : Reading) (l x v : ℕ) → limitAt (r .model) l x ≡ resolve (r .model .ceiling) v → Stays r l x (v ∷ [])
-field-stays r l x v =
+field-stays : (r : Reading) → KnownMark (r .mark) → (l x v : ℕ)
+    → limitAt (r .model) l x ≡ limitOf (r .mark) (r .model) l x v → Stays r l x (v ∷ [])
+field-stays r marked l x v =
     cond-ind (λ (k : ℕ). limitAt (r .model) l x ≡ k → Stays r l x (v ∷ [])) (eqb v 0)
-    (λ q e. subst (λ (w : ℕ). Stays r l x (w ∷ [])) (sym (eqb-true v 0 q)) (blank e))
+    (λ q e. subst (λ (w : ℕ). Stays r l x (w ∷ [])) (sym (eqb-true v 0 q)) (blank (blank-law r l x marked _ .1 (sym e))))
     (λ q e. let d = eqb-false v 0 q in let z : limitAt (r .model) l x + 1 ≡ v = omega arith in subst (λ (w : ℕ). Stays r l x (w ∷ [])) z written)
 
 -- its number
 record Meant (r : Reading) (l x : ℕ) (vs : List ℕ) : Type 0 where
   alone : vs ≡ getD vs 0 0 ∷ []
   range : getD vs 0 0 ≤ r .model .ceiling + 1
-  limit : resolve (r .model .ceiling) (getD vs 0 0) ≡ limitAt (r .model) l x
+  limit : limitOf (r .mark) (r .model) l x (getD vs 0 0) ≡ limitAt (r .model) l x
 
-stays-field : (r : Reading) (l x : ℕ) (vs : List ℕ) → Lawful (r .model) → Stays r l x vs → Meant r l x vs
-stays-field r l x _ ok (blank e) = record { alone = refl; range = omega arith; limit = sym e }
-stays-field r l x _ ok written =
+stays-field : (r : Reading) → KnownMark (r .mark) → (l x : ℕ) (vs : List ℕ) → Lawful (r .model) → Stays r l x vs → Meant r l x vs
+stays-field r marked l x _ ok (blank b) = record { alone = refl; range = omega arith; limit = blank-law r l x marked _ .0 b }
+stays-field r marked l x _ ok written =
     record {
       alone = refl;
       range = omega (arith, ok .ranges .invariant (slot l x));
@@ -52,7 +56,7 @@ stays-field r l x _ ok written =
 
 module _ (bs : List ℕ) (d : Draft) (g : InRange d) where
   abbrev done : Reading
-  done = record { refusal = 0; model = final d }
+  done = record { refusal = 0; mark = d .mark; model = final d }
 
   abbrev stay : ℕ → ℕ → List ℕ
   stay l x = d .place l .1 x ∷ []
@@ -60,7 +64,7 @@ module _ (bs : List ℕ) (d : Draft) (g : InRange d) where
   numbers-drafted : draftNumbers d ≡ numbersOf stay done
   unfolding numbersOf
   numbers-drafted =
-      ap (λ (l : List ℕ). 1 ∷ d .clocks ∷ d .ceiling ∷ d .locations ∷ d .edges ∷ d .start ∷ l)
+      ap (λ (l : List ℕ). d .mark ∷ d .clocks ∷ d .ceiling ∷ d .locations ∷ d .edges ∷ d .start ∷ l)
       (ap₂ _++_
       (gather-ext (d .locations) _ (locationNumbers stay done) (λ l h. ap (λ (k : ℕ). k ∷ gather (d .clocks) (stay l)) (sym (final-kind d g l h))))
       (gather-ext (d .edges) _ (edgeNumbers done) (λ e h.
@@ -72,10 +76,11 @@ module _ (bs : List ℕ) (d : Draft) (g : InRange d) where
   drafted-plan s =
       record {
         done = refl;
+        marked = g .mark;
         lawful = final-lawful d g;
         tidy = final-tidy d g;
         stay = stay;
-        stays = λ l x h k. field-stays done l x (d .place l .1 x) (final-limit d g l x h k);
+        stays = λ l x h k. field-stays done (g .mark) l x (d .place l .1 x) (final-limit d g l x h k);
         bytes = subst (SpellsAll bs) numbers-drafted s;
       }
 
@@ -83,7 +88,7 @@ pub plan-read : (bs : List ℕ) → parseModel bs .refusal ≡ 0 → SpellsPlan 
 plan-read bs e =
     let a = read-draft bs e in
     let d = a .draft in
-    subst (SpellsPlan bs) (sym (a .is ∙ ap (λ (m : Model). record { refusal = 0; model = m }) (resolved-draft d)))
+    subst (SpellsPlan bs) (sym (a .is ∙ ap (λ (m : Model). record { refusal = 0; mark = d .mark; model = m }) (resolved-draft d)))
     (drafted-plan bs d (a .range) (reads-law plain bs 0 (draftNumbers d) (omega arith) .0 (a .reads)))
 
 -- ---- what is spelt is read
@@ -125,6 +130,7 @@ module _ (bs : List ℕ) (r : Reading) (s : SpellsPlan bs r) where
   draft : Draft
   draft =
       record {
+        mark = r .mark;
         clocks = m .clocks;
         ceiling = m .ceiling;
         locations = m .locations;
@@ -138,7 +144,7 @@ module _ (bs : List ℕ) (r : Reading) (s : SpellsPlan bs r) where
       }
 
   meant : (l x : ℕ) → l < m .locations → x < m .clocks → Meant r l x (s .stay l x)
-  meant l x h k = stays-field r l x (s .stay l x) (s .lawful) (s .stays l x h k)
+  meant l x h k = stays-field r (s .marked) l x (s .stay l x) (s .lawful) (s .stays l x h k)
 
   draft-range : InRange draft
   unfolding draft
@@ -146,6 +152,7 @@ module _ (bs : List ℕ) (r : Reading) (s : SpellsPlan bs r) where
       let ok = s .lawful in
       let g = ok .ranges in
       record {
+        mark = s .marked;
         clocks = ok .clocks;
         ceiling = ok .ceiling;
         locations = ok .locations;
@@ -161,7 +168,7 @@ module _ (bs : List ℕ) (r : Reading) (s : SpellsPlan bs r) where
   draft-numbers : numbersOf (s .stay) r ≡ draftNumbers draft
   unfolding draft numbersOf
   draft-numbers =
-      ap (λ (l : List ℕ). 1 ∷ m .clocks ∷ m .ceiling ∷ m .locations ∷ m .edges ∷ m .start ∷ (l ++ gather (m .edges) (edgeNumbers r)))
+      ap (λ (l : List ℕ). r .mark ∷ m .clocks ∷ m .ceiling ∷ m .locations ∷ m .edges ∷ m .start ∷ (l ++ gather (m .edges) (edgeNumbers r)))
       (gather-ext (m .locations) (locationNumbers (s .stay) r) _ (λ l h.
       ap (λ (t : List ℕ). getD (m .kind) l 0 ∷ t) (gather-ext (m .clocks) (s .stay l) _ (λ x k. meant l x h k .alone))))
 
@@ -177,7 +184,11 @@ module _ (bs : List ℕ) (r : Reading) (s : SpellsPlan bs r) where
       model-ext (final d) m refl refl refl refl refl
       (row-ext (m .locations) _ _ (z .kind ∙ sym (y .kind)) (t .kind) (u .kind) (final-kind d g))
       (grid-ext (m .locations) _ _ (z .invariant ∙ sym (y .invariant)) (m .clocks) (t .invariant) (u .invariant)
-      (λ l x h k. final-limit d g l x h k ∙ meant l x h k .limit))
+      (λ l x h k.
+      final-limit d g l x h k
+      ∙ ap (λ (b : ℕ). cond (eqb (d .place l .1 x) 0) b (d .place l .1 x - 1))
+      (default-same (r .mark) (final d) m l x refl refl (final-source d g) (λ e q. final-high d g e q x k))
+      ∙ meant l x h k .limit))
       (row-ext (m .edges) _ _ (z .source ∙ sym (y .source)) (t .source) (u .source) (final-source d g))
       (row-ext (m .edges) _ _ (z .target ∙ sym (y .target)) (t .target) (u .target) (final-target d g))
       (row-ext (m .edges) _ _ (z .reset ∙ sym (y .reset)) (t .reset) (u .reset) (final-reset d g))
@@ -185,11 +196,12 @@ module _ (bs : List ℕ) (r : Reading) (s : SpellsPlan bs r) where
       (grid-ext (m .edges) _ _ (z .upper ∙ sym (y .upper)) (m .clocks) (t .upper) (u .upper) (λ e x h k. final-high d g e h x k))
 
   pub plan-parses : parseModel bs ≡ r
+  unfolding draft
   plan-parses =
       draft-read bs draft draft-range
       (reads-law plain bs 0 (draftNumbers draft) (omega arith) .1 (subst (SpellsAll bs) draft-numbers (s .bytes)))
-      ∙ ap (λ (k : Model). record { refusal = 0; model = k }) (resolved-draft draft ∙ draft-model)
-      ∙ ap (λ (k : ℕ). record { refusal = k; model = r .model }) (sym (s .done))
+      ∙ ap (λ (k : Model). record { refusal = 0; mark = r .mark; model = k }) (resolved-draft draft ∙ draft-model)
+      ∙ ap (λ (k : ℕ). record { refusal = k; mark = r .mark; model = r .model }) (sym (s .done))
 
 -- ---- both
 
@@ -224,4 +236,4 @@ accept-law bs r = (
 pub accepted-whole : (bs : List ℕ) → readModel bs .refusal ≡ 0 → Whole (readModel bs)
 accepted-whole bs e =
     let s = accepted-plan bs e in
-    record { done = e; lawful = s .lawful; tidy = s .tidy; resets = accepted-resets bs e }
+    record { done = e; marked = s .marked; lawful = s .lawful; tidy = s .tidy; resets = accepted-resets bs e }

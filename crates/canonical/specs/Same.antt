@@ -1,4 +1,4 @@
--- 02: "two models with the same header, kinds, limits and edges in order". Used places only.
+-- 02: "two models with the same header, kinds, limits and edges in order", the mark among the header. Used places only.
 use Prim.Native.Nat.{ℕ, _<_}
 use mathlib.Core.Path.{_≡_}
 use lib.ListN.{getD}
@@ -6,6 +6,7 @@ use Rattle.model.specs.declared.Reading.{Reading}
 use Rattle.model.specs.Model.{sourceOf, targetOf, limitAt, lowAt, highAt}
 
 pub record SameContent (r s : Reading) : Type 0 where
+  pub mark : r .mark ≡ s .mark
   pub clocks : r .model .clocks ≡ s .model .clocks
   pub ceiling : r .model .ceiling ≡ s .model .ceiling
   pub locations : r .model .locations ≡ s .model .locations

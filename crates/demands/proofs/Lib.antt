@@ -20,3 +20,7 @@ pub mod Plans
 -- Request (b) of 02: no padding in evidence, and what padding does to an answer.
 pub mod Respelled
 pub mod Padding
+-- Request (c) of 02: blank stay limits.
+pub mod Marks
+-- Beyond it: a plan whose mark becomes 2 stays safe.
+pub mod Narrower

@@ -1,10 +1,10 @@
 -- Request (a) of 02: "A writer shall take any accepted model and put it out in shortest numbers, a stay field of M+1 becoming 0."
--- For all bytes and all outputs, by what the writer answers and leaves.
+-- For all bytes and all outputs, by what the writer answers and leaves. With request (c), "The shortest writer keeps the mark".
 use mathlib.Core.Path.{_≡_, refl, sym, ap, ap₂, subst, _∙_}
 use mathlib.Core.Bool.{Bool, true, false}
 use mathlib.Core.Logic.{_↔_}
 use mathlib.Core.List.{List, [], _∷_, _++_}
-use Prim.Native.Nat.{ℕ, _≤_, _<_}
+use Prim.Native.Nat.{ℕ, _+_, _≤_, _<_}
 use native.Mathlib.Decide.{decLt}
 use native.Mathlib.Omega.{arith}
 use lib.ListN.{length, getD, take, drop}
@@ -20,7 +20,9 @@ use Rattle.model.specs.Cycle.{LeavesUnreset}
 use Rattle.model.specs.Accept.{readModel}
 use Rattle.model.proofs.Accepted.{refusal-bound}
 use Rattle.canonical.specs.Canonical.{numbersOf, SpellsPlan, stayNumbers, planNumbers, shortestPlan}
+use Rattle.canonical.specs.Blank.{Blank}
 use Rattle.canonical.specs.Same.{SameContent}
+use Rattle.canonical.proofs.Blanks.{blank-law}
 use Rattle.canonical.proofs.Plans.{accept-law, accepted-whole}
 use Rattle.canonical.proofs.Shortest.{shortest-spells, reads-back, same-bytes, same-back, plan-shortest, no-longer, none-shorter}
 use Rattle.op_plan.specs.Plan.{planAnswer, planOutput}
@@ -79,29 +81,38 @@ module _ (bytes out : List ℕ) where
     count-is : getD (planAnswer bytes (length out) .values) 0 0 ≡ length short
     count-is = ap (λ (a : Answer). getD (a .values) 0 0) (plan-told plan-accepted enough .0)
 
-    -- "in shortest numbers, a stay field of M+1 becoming 0": the numbers of the plan, with 0 for a limit at the ceiling, each in shortest form
+    -- "in shortest numbers": the plan's, with 0 for a limit that a blank means, each in shortest form
     pub plan-is : planWritten bytes out ≡ shortestPlan (readModel bytes)
     plan-is =
         ap₂ take count-is (plan-told plan-accepted enough .1) ∙ take-append-seam short (drop (length short) out)
 
-    -- M+1 takes a byte as 0 does, so being shortest does not decide between them: each limit at the ceiling is written as 0
+    -- Other fields take a byte as 0 does, so being shortest does not decide between them. "writes the 0 exactly where the default gives the same limit,
+    -- M+1 or not": in mark 1 that is "a stay field of M+1 becoming 0".
     pub plan-blanks : (stay : ℕ → ℕ → List ℕ) × (planWritten bytes out ≡ spellAll (numbersOf stay (readModel bytes)))
-        × ((l x : ℕ) → limitAt (readModel bytes .model) l x ≡ readModel bytes .model .ceiling → stay l x ≡ 0 ∷ [])
+        × ((l x : ℕ) → Blank (readModel bytes) l x (limitAt (readModel bytes .model) l x) → stay l x ≡ 0 ∷ [])
+        × ((l x : ℕ) → (Blank (readModel bytes) l x (limitAt (readModel bytes .model) l x) → ⊥) → stay l x ≡ (limitAt (readModel bytes .model) l x + 1) ∷ [])
     unfolding shortestPlan planNumbers
-    plan-blanks = (stayNumbers (readModel bytes), plan-is, λ l x e. simp (eq-eqb _ _ e) refl)
+    plan-blanks =
+        let r = readModel bytes in
+        let marked = accepted-whole bytes plan-accepted .marked in (
+          stayNumbers r,
+          plan-is,
+          λ l x b. let v = limitAt (r .model) l x in simp (eq-eqb v _ (sym (blank-law r l x marked v .0 b))) refl,
+          λ l x n. let v = limitAt (r .model) l x in simp (ne-eqb v _ (λ e. n (blank-law r l x marked v .1 (sym e)))) refl,
+        )
 
     -- the answer is how many bytes were written
     pub plan-length : getD (planAnswer bytes (length out) .values) 0 0 ≡ length (planWritten bytes out)
     plan-length = count-is ∙ ap length (sym plan-is)
 
-    -- "Reading the output yields the model read from the input, limits compared and not stay fields"
+    -- "Reading the output yields the model read from the input, limits compared and not stay fields", and the mark
     pub plan-reads : readModel (planWritten bytes out) ≡ readModel bytes
     plan-reads = ap readModel plan-is ∙ reads-back (readModel bytes) (accepted-whole bytes plan-accepted)
 
     pub plan-spells : SpellsPlan (planWritten bytes out) (readModel bytes)
     plan-spells = subst (λ (l : List ℕ). SpellsPlan l (readModel bytes)) (sym plan-is) (shortest-spells (readModel bytes) (accepted-whole bytes plan-accepted))
 
-    -- "no accepted spelling is shorter": of just this model, and of the same content
+    -- "no accepted spelling is shorter": of just this reading, and of the same content, "among plans of one mark"
     pub plan-least : (cs : List ℕ) → SpellsPlan cs (readModel bytes) → length (planWritten bytes out) ≤ length cs
     plan-least cs s = subst (λ (l : List ℕ). length l ≤ length cs) (sym plan-is) (plan-shortest cs (readModel bytes) s)
 
@@ -122,7 +133,7 @@ plan-own bytes out out′ z h =
     let again = plan-fits (planWritten bytes out) out′ taken h in
     (again, plan-is (planWritten bytes out) out′ again ∙ ap shortestPlan same ∙ sym (plan-is bytes out z))
 
--- "two models with the same header, kinds, limits and edges in order give the same bytes", and only they do
+-- "two models with the same header, kinds, limits and edges in order give the same bytes", and only they do; the mark is of the header
 pub plan-same : (bytes out bytes′ out′ : List ℕ) → planAnswer bytes (length out) .number ≡ 0 → planAnswer bytes′ (length out′) .number ≡ 0
     → SameContent (readModel bytes) (readModel bytes′) ↔ (planWritten bytes out ≡ planWritten bytes′ out′)
 plan-same bytes out bytes′ out′ z z′ =

@@ -25,34 +25,40 @@ use Rattle.op_plan.specs.Plan.{planAnswer, planOutput}
 use Rattle.op_margin.specs.Margin.{marginAnswer}
 use Rattle.op_sheet_margin.specs.SheetMargin.{boundValues, sheetMarginAnswer}
 use Rattle.op_harm.specs.Harm.{harmValues, harmAnswer}
-use Rattle.demands.specs.SameAnswers.{SameAnswers}
+use Rattle.demands.specs.SameAnswers.{SameTimed, SameAnswers}
 
-module _ (bs cs : List ℕ) (e : readModel bs ≡ readModel cs) where
-  model : modelOf bs ≡ modelOf cs
-  model = ap (λ (r : Reading). r .model) e
+module _ (bs cs : List ℕ) where
+  -- Sets, verdicts and evidence depend on the timing model alone; what stands beside it in the reading, as the mark does, has no part in them.
+  module _ (r : readModel bs .refusal ≡ readModel cs .refusal) (m : modelOf bs ≡ modelOf cs) where
+    refused : (lent : List ℕ) → refusal bs lent ≡ refusal cs lent
+    unfolding refusal
+    refused lent = ap₂ (λ (k : ℕ) (n : Model). cond (eqb k 0) (cond (enough (states n) lent) 0 8) k) r m
 
-  refused : (lent : List ℕ) → refusal bs lent ≡ refusal cs lent
-  unfolding refusal
-  refused lent = ap (λ (r : Reading). cond (eqb (r .refusal) 0) (cond (enough (states (r .model)) lent) 0 8) (r .refusal)) e
+    -- whatever is made of the refusal and the model
+    seen : {A : Type 0} (f : ℕ → Model → A) (lent : List ℕ) → f (refusal bs lent) (modelOf bs) ≡ f (refusal cs lent) (modelOf cs)
+    seen f lent = ap₂ f (refused lent) m
 
-  -- whatever is made of the refusal and the model
-  seen : {A : Type 0} (f : ℕ → Model → A) (lent : List ℕ) → f (refusal bs lent) (modelOf bs) ≡ f (refusal cs lent) (modelOf cs)
-  seen f lent = ap₂ f (refused lent) model
+    pub same-timed : SameTimed bs cs
+    unfolding judged marksRefusal marked output checkAnswer writeAnswer writeOutput marginAnswer sheetMarginAnswer harmAnswer left
+    same-timed =
+        record {
+          judge = seen (λ k n. answer k (verdict (systemOfModel n)));
+          marks = λ lent room. seen (λ k n. answer (cond (eqb k 0) (short room n) k) (states n ∷ [])) lent;
+          marks-output = λ lent out. seen (λ k n. cond (eqb k 0) (marksIn n out) out) lent;
+          check = λ evidence. seen (λ k n. cond (eqb k 0) (evidenceAnswer (checked n evidence)) (answer k []));
+          write = λ lent room. seen (λ k n. cond (eqb k 0) (writtenAnswer (writtenFor n room)) (answer k [])) lent;
+          write-output = λ lent out. seen (λ k n. cond (eqb k 0) (evidenceIn n out) out) lent;
+          margin = ap₂ (λ (k : ℕ) (n : Model). answer k (states n ∷ margin (automatonOf n) (n .locations) ∷ [])) r m;
+          sheet-margin = seen (λ k n. answer k (boundValues n));
+          harm = seen (λ k n. answer k (harmValues n));
+          scratch = λ lent xs. seen (λ k n. cond (eqb k 0) (cleared (states n) xs) xs) lent;
+        }
 
-  pub same-answers : SameAnswers bs cs
-  unfolding judged marksRefusal marked output checkAnswer writeAnswer writeOutput planAnswer planOutput marginAnswer sheetMarginAnswer harmAnswer left
-  same-answers =
+  pub same-answers : readModel bs ≡ readModel cs → SameAnswers bs cs
+  unfolding planAnswer planOutput
+  same-answers e =
       record {
-        judge = seen (λ k m. answer k (verdict (systemOfModel m)));
-        marks = λ lent room. seen (λ k m. answer (cond (eqb k 0) (short room m) k) (states m ∷ [])) lent;
-        marks-output = λ lent out. seen (λ k m. cond (eqb k 0) (marksIn m out) out) lent;
-        check = λ evidence. seen (λ k m. cond (eqb k 0) (evidenceAnswer (checked m evidence)) (answer k []));
-        write = λ lent room. seen (λ k m. cond (eqb k 0) (writtenAnswer (writtenFor m room)) (answer k [])) lent;
-        write-output = λ lent out. seen (λ k m. cond (eqb k 0) (evidenceIn m out) out) lent;
+        timed = same-timed (ap (λ (r : Reading). r .refusal) e) (ap (λ (r : Reading). r .model) e);
         plan = λ room. ap (λ (r : Reading). bytesAnswer (r .refusal) (shortestPlan r) room) e;
         plan-output = λ out. ap (λ (r : Reading). bytesOutput (r .refusal) (shortestPlan r) out) e;
-        margin = ap (λ (r : Reading). answer (r .refusal) (states (r .model) ∷ margin (automatonOf (r .model)) (r .model .locations) ∷ [])) e;
-        sheet-margin = seen (λ k m. answer k (boundValues m));
-        harm = seen (λ k m. answer k (harmValues m));
-        scratch = λ lent xs. seen (λ k m. cond (eqb k 0) (cleared (states m) xs) xs) lent;
       }

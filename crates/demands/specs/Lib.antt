@@ -8,3 +8,5 @@ pub mod Told
 pub mod SameAnswers
 -- Request (b) of 02: the old rules, and evidence with its padding taken out.
 pub mod Padding
+-- Request (c) of 02: a plan in another mark.
+pub mod Marks

@@ -12,17 +12,21 @@ use Rattle.op_margin.specs.Margin.{marginAnswer}
 use Rattle.op_sheet_margin.specs.SheetMargin.{sheetMarginAnswer}
 use Rattle.op_harm.specs.Harm.{harmAnswer}
 
--- as models these bytes give the same answers, the same outputs and the same scratch
-pub record SameAnswers (bs cs : List ℕ) : Type 0 where
+-- as models these bytes give the same verdict, marks, evidence, check, margins and scratch: all that 01 asks for
+pub record SameTimed (bs cs : List ℕ) : Type 0 where
   pub judge : (lent : List ℕ) → judged bs lent ≡ judged cs lent
   pub marks : (lent : List ℕ) (room : ℕ) → marked bs lent room ≡ marked cs lent room
   pub marks-output : (lent out : List ℕ) → output bs lent out ≡ output cs lent out
   pub check : (evidence lent : List ℕ) → checkAnswer bs evidence lent ≡ checkAnswer cs evidence lent
   pub write : (lent : List ℕ) (room : ℕ) → writeAnswer bs lent room ≡ writeAnswer cs lent room
   pub write-output : (lent out : List ℕ) → writeOutput bs lent out ≡ writeOutput cs lent out
-  pub plan : (room : ℕ) → planAnswer bs room ≡ planAnswer cs room
-  pub plan-output : (out : List ℕ) → planOutput bs out ≡ planOutput cs out
   pub margin : marginAnswer bs ≡ marginAnswer cs
   pub sheet-margin : (lent : List ℕ) → sheetMarginAnswer bs lent ≡ sheetMarginAnswer cs lent
   pub harm : (lent : List ℕ) → harmAnswer bs lent ≡ harmAnswer cs lent
   pub scratch : (lent xs : List ℕ) → left bs lent xs ≡ left cs lent xs
+
+-- and the same shortest form
+pub record SameAnswers (bs cs : List ℕ) : Type 0 where
+  pub timed : SameTimed bs cs
+  pub plan : (room : ℕ) → planAnswer bs room ≡ planAnswer cs room
+  pub plan-output : (out : List ℕ) → planOutput bs out ≡ planOutput cs out

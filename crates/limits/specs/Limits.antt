@@ -1,5 +1,5 @@
 -- The limits of a plan (01, "Bytes of a model"), and the numbers that follow from them; beside each in src/lib.rt stands the constant of the code.
-use Prim.Native.Nat.{ℕ, _+_, _-_, _*_, _^_}
+use Prim.Native.Nat.{ℕ, _+_, _-_, _*_, _^_, _≤_}
 
 -- "clocks n, 1..3; ceiling M, 1..4; locations L, 1..8; edges E, 0..24"
 abbrev pub maxClocks : ℕ
@@ -13,6 +13,13 @@ maxLocations = 8
 
 abbrev pub maxEdges : ℕ
 maxEdges = 24
+
+-- a plan's mark: 1 as in 01, 2 as in 02
+abbrev pub newestMark : ℕ
+newestMark = 2
+
+abbrev pub KnownMark : ℕ → Type 0
+KnownMark mark = (1 ≤ mark) × (mark ≤ newestMark)
 
 -- the largest number that a `Word` holds
 abbrev pub maxWord : ℕ

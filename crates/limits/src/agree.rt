@@ -1,7 +1,7 @@
 // Each constant is the number that contracts name.
 
 ghost use mathlib.Core.Path.{_≡_};
-ghost use Rattle.limits.specs.Limits.{maxClocks, maxCeiling, maxLocations, maxEdges, maxRegions, maxStates, maxSteps, slotCount, pointBase, pointCount, wholeBase, rankBase, rankCodeCount, codeCount, maxFaces, levelFlag, smallRegions, smallStates, smallSteps, digitBase, twoDigits, threeDigits};
+ghost use Rattle.limits.specs.Limits.{maxClocks, maxCeiling, maxLocations, maxEdges, newestMark, maxRegions, maxStates, maxSteps, slotCount, pointBase, pointCount, wholeBase, rankBase, rankCodeCount, codeCount, maxFaces, levelFlag, smallRegions, smallStates, smallSteps, digitBase, twoDigits, threeDigits};
 
 pub fn clocks() -> usize
     ensures { λ r. ⌜ r ≡ maxClocks ⌝ }
@@ -25,6 +25,12 @@ pub fn edges() -> usize
     ensures { λ r. ⌜ r ≡ maxEdges ⌝ }
 {
     super::MAX_EDGES
+}
+
+pub fn marks() -> usize
+    ensures { λ r. ⌜ r ≡ newestMark ⌝ }
+{
+    super::NEWEST_MARK
 }
 
 pub fn regions() -> usize

@@ -18,6 +18,9 @@ pub const MAX_LOCATIONS: usize = 8;
 
 pub const MAX_EDGES: usize = 24;
 
+// 01 and 02: a plan's mark is 1 or 2.
+pub const NEWEST_MARK: usize = 2;
+
 // ---- what follows
 
 // 01's count for n = 3 at the ceiling.

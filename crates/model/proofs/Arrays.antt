@@ -3,7 +3,7 @@ use Prim.Native.Nat.{ℕ, suc, zero, _*_, _/_, _%_, _≤_, _<_}
 use native.Mathlib.Omega.{arith}
 use mathlib.Core.Path.{_≡_, refl, sym, subst, _∙_}
 use mathlib.Core.Logic.{_⊎_, inl, inr}
-use mathlib.Core.List.{List}
+use mathlib.Core.List.{List, [], _∷_}
 use mathlib.Core.Bool.{Bool, true, false}
 use lib.ListN.{length, getD, set, replicate, length-set}
 use lib.Seq.{getD-set-same, getD-set-other, ext-getD}
@@ -18,6 +18,14 @@ pub zeros : (n v : ℕ) → _≡_ {A = ℕ} (getD (replicate n 0) v 0) 0
 zeros zero v = refl
 zeros (suc n) zero = refl
 zeros (suc n) (suc v) = zeros n v
+
+-- what is set is at most c, as the rest is
+pub set-most : (c : ℕ) (xs : List ℕ) (i v : ℕ) → v ≤ c → ((j : ℕ) → getD xs j 0 ≤ c) → (j : ℕ) → getD (set xs i v) j 0 ≤ c
+set-most c [] i v p h j = h j
+set-most c (x ∷ xs) zero v p h zero = p
+set-most c (x ∷ xs) zero v p h (suc j) = h (suc j)
+set-most c (x ∷ xs) (suc i) v p h zero = h zero
+set-most c (x ∷ xs) (suc i) v p h (suc j) = set-most c xs i v p (λ k. h (suc k)) j
 
 -- ---- the first k places
 

@@ -13,7 +13,7 @@ use Rattle.model.specs.declared.Model.{Model}
 use Rattle.model.specs.declared.Reading.{Reading}
 use Rattle.model.specs.declared.parse.Field.{Field}
 use Rattle.model.specs.declared.parse.State.{State}
-use Rattle.limits.specs.Limits.{maxClocks, maxCeiling, maxLocations, maxEdges}
+use Rattle.limits.specs.Limits.{maxClocks, maxCeiling, maxLocations, maxEdges, newestMark, KnownMark}
 use Rattle.model.specs.Each.{each, gather}
 use Rattle.model.specs.Model.{slot}
 use Rattle.model.specs.Parse.{fieldAt, onField, going, blank, refused, resolved, finish, withArrays, withKind, withInvariant, withEnds, withGuard, parseLocation, parseEdge, parseBody, parseCounts, parseModel}
@@ -22,8 +22,9 @@ use Rattle.model.proofs.Arrays.{row, line, grid}
 use Rattle.model.proofs.Readers.{Ends, Guard, body-reader}
 use Rattle.number.specs.declared.Number.the-variants as number
 
--- the numbers of a plan: five of the header, then kind and stay fields of each location, then ends and guards of each edge
+-- the numbers of a plan: six of the header, then kind and stay fields of each location, then ends and guards of each edge
 pub record Draft : Type 0 where
+  pub mark : ℕ
   pub clocks : ℕ
   pub ceiling : ℕ
   pub locations : ℕ
@@ -39,9 +40,10 @@ bodyNumbers d =
     ∷ gather (d .clocks) (λ x. d .link i .1 x .low ∷ d .link i .1 x .high ∷ []))
 
 abbrev pub draftNumbers : Draft → List ℕ
-draftNumbers d = 1 ∷ d .clocks ∷ d .ceiling ∷ d .locations ∷ d .edges ∷ d .start ∷ bodyNumbers d
+draftNumbers d = d .mark ∷ d .clocks ∷ d .ceiling ∷ d .locations ∷ d .edges ∷ d .start ∷ bodyNumbers d
 
 pub record InRange (d : Draft) : Type 0 where
+  pub mark : KnownMark (d .mark)
   pub clocks : (1 ≤ d .clocks) × (d .clocks ≤ maxClocks)
   pub ceiling : (1 ≤ d .ceiling) × (d .ceiling ≤ maxCeiling)
   pub locations : (1 ≤ d .locations) × (d .locations ≤ maxLocations)
@@ -67,6 +69,10 @@ drawn d =
     (row (d .edges) (λ i. d .link i .0 .reset) (replicate maxEdges 0))
     (grid (d .edges) (d .clocks) (λ i x. d .link i .1 x .low) (replicate (maxClocks * maxEdges) 0))
     (grid (d .edges) (d .clocks) (λ i x. d .link i .1 x .high) (replicate (maxClocks * maxEdges) 0))
+
+-- what a reader makes of it
+abbrev pub readOf : ℕ → Model → Reading
+readOf mark m = record { refusal = 0; mark = mark; model = resolved mark m }
 
 -- rounds over a model are rounds over its arrays
 module _ (m : Model) (n : ℕ) where
@@ -141,26 +147,24 @@ on-value : {A : Type 0} (bs : List ℕ) (at low high refusal : ℕ) (stop : ℕ 
 on-value bs at low high refusal stop go v p e a b = ap (λ (f : Field). onField f stop go) (field-is bs at low high refusal v p e a b)
 
 module _ (bs : List ℕ) where
-  finish-back : (s : State) → finish bs s .refusal ≡ 0
-      → (s .refusal ≡ 0) × (length bs ≤ s .at) × (finish bs s ≡ record { refusal = 0; model = resolved (s .model) })
-  finish-back s =
-      let Q : Reading → Type 0 = λ r. r .refusal ≡ 0
-      → (s .refusal ≡ 0) × (length bs ≤ s .at) × (r ≡ record { refusal = 0; model = resolved (s .model) }) in
+  finish-back : (mark : ℕ) (s : State) → finish bs mark s .refusal ≡ 0
+      → (s .refusal ≡ 0) × (length bs ≤ s .at) × (finish bs mark s ≡ readOf mark (s .model))
+  finish-back mark s =
+      let Q : Reading → Type 0 = λ r. r .refusal ≡ 0 → (s .refusal ≡ 0) × (length bs ≤ s .at) × (r ≡ readOf mark (s .model)) in
       cond-ind Q (eqb (s .refusal) 0)
       (λ q. cond-ind Q (ltb (s .at) (length bs)) (λ t e. absurd (omega arith)) (λ t e. (eqb-true _ _ q, ltb-false _ _ t, refl)))
       (λ q e. absurd (eqb-false _ _ q e))
 
-  finish-on : (m : Model) → finish bs (going (length bs) m) ≡ record { refusal = 0; model = resolved m }
-  finish-on m = simp (le-ltb (length bs) (length bs) (omega arith))
+  finish-on : (mark : ℕ) (m : Model) → finish bs mark (going (length bs) m) ≡ readOf mark m
+  finish-on mark m = simp (le-ltb (length bs) (length bs) (omega arith))
 
   pub record Drafted (r : Reading) : Type 0 where
     pub draft : Draft
     pub range : InRange draft
     pub reads : Reads bs 0 (draftNumbers draft) (length bs)
-    pub is : r ≡ record { refusal = 0; model = resolved (drawn draft) }
+    pub is : r ≡ readOf (draft .mark) (drawn draft)
 
-  pub draft-read : (d : Draft) → InRange d → Reads bs 0 (draftNumbers d) (length bs)
-      → parseModel bs ≡ record { refusal = 0; model = resolved (drawn d) }
+  pub draft-read : (d : Draft) → InRange d → Reads bs 0 (draftNumbers d) (length bs) → parseModel bs ≡ readOf (d .mark) (drawn d)
   unfolding parseModel parseCounts parseBody
   draft-read d g r =
       let (p1, a1, r1) = reads-first r in
@@ -169,15 +173,15 @@ module _ (bs : List ℕ) where
       let (p4, a4, r4) = reads-first r3 in
       let (p5, a5, r5) = reads-first r4 in
       let (p6, a6, r6) = reads-first r5 in
-      on-value bs 0 1 1 3 refused _ 1 p1 a1 (omega arith) (omega arith)
+      on-value bs 0 1 newestMark 3 refused _ (d .mark) p1 a1 (g .mark .0) (g .mark .1)
       ∙ on-value bs p1 1 maxClocks 3 refused _ (d .clocks) p2 a2 (g .clocks .0) (g .clocks .1)
       ∙ on-value bs p2 1 maxCeiling 3 refused _ (d .ceiling) p3 a3 (g .ceiling .0) (g .ceiling .1)
       ∙ on-value bs p3 1 maxLocations 3 refused _ (d .locations) p4 a4 (g .locations .0) (g .locations .1)
       ∙ on-value bs p4 0 maxEdges 3 refused _ (d .edges) p5 a5 (omega arith) (g .edges)
       ∙ on-value bs p5 0 (d .locations - 1) 3 refused _ (d .start) p6 a6 (omega arith) (g .start)
-      ∙ ap (finish bs) (body-reader bs (d .clocks) (d .ceiling) (d .locations) (d .edges) .on (d .place, d .link) (g .place, g .link) p6 (length bs) (blankOf d) r6)
-      ∙ finish-on (put d (blankOf d))
-      ∙ ap (λ (m : Model). record { refusal = 0; model = resolved m }) (put-drawn d)
+      ∙ ap (finish bs (d .mark)) (body-reader bs (d .clocks) (d .ceiling) (d .locations) (d .edges) .on (d .place, d .link) (g .place, g .link) p6 (length bs) (blankOf d) r6)
+      ∙ finish-on (d .mark) (put d (blankOf d))
+      ∙ ap (readOf (d .mark)) (put-drawn d)
 
   -- a number of the header
   header : (at low high : ℕ) (go : ℕ → ℕ → Reading)
@@ -187,35 +191,30 @@ module _ (bs : List ℕ) where
       let a = taken (λ (r : Reading). r .refusal) bs at low high 3 refused go (omega arith) (λ r. refl) h in
       subst Drafted (sym (a .is)) (f (a .value) (a .to) (a .reads) (a .least) (a .most) (ap (λ (r : Reading). r .refusal) (sym (a .is)) ∙ h))
 
-  body-draft : (p n m l e s : ℕ) → Reads bs 0 (1 ∷ n ∷ m ∷ l ∷ e ∷ s ∷ []) p
-      → (1 ≤ n) × (n ≤ maxClocks) → (1 ≤ m) × (m ≤ maxCeiling) → (1 ≤ l) × (l ≤ maxLocations) → e ≤ maxEdges → s ≤ l - 1
-      → parseBody bs p n m l e s .refusal ≡ 0 → Drafted (parseBody bs p n m l e s)
+  body-draft : (p k n m l e s : ℕ) → Reads bs 0 (k ∷ n ∷ m ∷ l ∷ e ∷ s ∷ []) p
+      → KnownMark k → (1 ≤ n) × (n ≤ maxClocks) → (1 ≤ m) × (m ≤ maxCeiling) → (1 ≤ l) × (l ≤ maxLocations) → e ≤ maxEdges → s ≤ l - 1
+      → parseBody bs p k n m l e s .refusal ≡ 0 → Drafted (parseBody bs p k n m l e s)
   unfolding parseBody
-  body-draft p n m l e s r hn hm hl he hs h =
-      let f = finish-back (each e (parseEdge bs n m l) (each l (parseLocation bs n m) (going p (blank n m l e s)))) h in
+  body-draft p k n m l e s r hk hn hm hl he hs h =
+      let f = finish-back k (each e (parseEdge bs n m l) (each l (parseLocation bs n m) (going p (blank n m l e s)))) h in
       let b = body-reader bs n m l e .back (going p (blank n m l e s)) (f .0) in
-      let d : Draft = record { clocks = n; ceiling = m; locations = l; edges = e; start = s; place = b .what .0; link = b .what .1 } in
+      let d : Draft = record { mark = k; clocks = n; ceiling = m; locations = l; edges = e; start = s; place = b .what .0; link = b .what .1 } in
       let all : Reads bs 0 (draftNumbers d) (b .to) = reads-append r (b .reads) in
       let last : b .to ≡ length bs = omega (arith, f .1, ap (λ (t : State). t .at) (b .is), reads-within plain all (omega arith)) in
       record {
         draft = d;
-        range = record { clocks = hn; ceiling = hm; locations = hl; edges = he; start = hs; place = b .fine .0; link = b .fine .1 };
+        range = record { mark = hk; clocks = hn; ceiling = hm; locations = hl; edges = he; start = hs; place = b .fine .0; link = b .fine .1 };
         reads = subst (Reads bs 0 (draftNumbers d)) last all;
-        is =
-            f .2 ∙ ap (λ (t : State). record { refusal = 0; model = resolved (t .model) }) (b .is)
-            ∙ ap (λ (y : Model). record { refusal = 0; model = resolved y }) (put-drawn d);
+        is = f .2 ∙ ap (λ (t : State). readOf k (t .model)) (b .is) ∙ ap (readOf k) (put-drawn d);
       }
 
   pub read-draft : parseModel bs .refusal ≡ 0 → Drafted (parseModel bs)
   unfolding parseModel parseCounts
   read-draft =
-      header 0 1 1 _ (λ v p r1 a1 b1.
-      let one : v ≡ 1 = omega arith in
+      header 0 1 newestMark _ (λ k p r1 a1 b1.
       header p 1 maxClocks _ (λ n q r2 a2 b2.
       header q 1 maxCeiling _ (λ m o r3 a3 b3.
       header o 1 maxLocations _ (λ l t r4 a4 b4.
       header t 0 maxEdges _ (λ e u r5 a5 b5.
       header u 0 (l - 1) _ (λ s w r6 a6 b6.
-      body-draft w n m l e s
-      (more (subst (λ (k : ℕ). readNumber bs 0 ≡ number.Value k p) one r1) (more r2 (more r3 (more r4 (more r5 (more r6 none))))))
-      (a2, b2) (a3, b3) (a4, b4) b5 b6))))))
+      body-draft w k n m l e s (more r1 (more r2 (more r3 (more r4 (more r5 (more r6 none)))))) (a1, b1) (a2, b2) (a3, b3) (a4, b4) b5 b6))))))

@@ -4,6 +4,7 @@ use mathlib.Core.Path.{_≡_, refl}
 use mathlib.Core.List.{List, [], _∷_, map}
 use lib.ListN.{take}
 use Rattle.number.specs.Number.{readNumber}
+use Rattle.stay_limits.specs.Stay.{leaving}
 use Rattle.model.specs.Each.{each}
 use Rattle.model.specs.Parse.{fieldAt, kindAt, invariantAt, endsAt, guardAt, resolved, parseBody, parseCounts, parseModel}
 use Rattle.model.specs.Cycle.{markEdge, roundOf, survivors, hasCycle, unreset}
@@ -41,12 +42,38 @@ cases =
     -- a byte remains: 6
     ∷ (1 ∷ 1 ∷ 1 ∷ 1 ∷ 0 ∷ 0 ∷ 0 ∷ 0 ∷ 0 ∷ [])
     -- an edge from a location to itself that resets nothing: 7
-    ∷ (1 ∷ 1 ∷ 1 ∷ 1 ∷ 1 ∷ 0 ∷ 0 ∷ 0 ∷ 0 ∷ 0 ∷ 0 ∷ 0 ∷ 1 ∷ []) ∷ []
+    ∷ (1 ∷ 1 ∷ 1 ∷ 1 ∷ 1 ∷ 0 ∷ 0 ∷ 0 ∷ 0 ∷ 0 ∷ 0 ∷ 0 ∷ 1 ∷ [])
+    -- mark 2: accepted; marks 0 and 3: 3
+    ∷ (2 ∷ 1 ∷ 1 ∷ 1 ∷ 0 ∷ 0 ∷ 0 ∷ 0 ∷ [])
+    ∷ (0 ∷ 1 ∷ 1 ∷ 1 ∷ 0 ∷ 0 ∷ 0 ∷ 0 ∷ [])
+    ∷ (3 ∷ 1 ∷ 1 ∷ 1 ∷ 0 ∷ 0 ∷ 0 ∷ 0 ∷ []) ∷ []
+
+-- two edges leave the first location, one of which never opens; none leaves the second; each stay field is blank but the third's, M+1
+blanks : ℕ → List ℕ
+blanks mark =
+    mark ∷ 2 ∷ 3 ∷ 3 ∷ 3 ∷ 0
+    ∷ 0 ∷ 0 ∷ 0
+    ∷ 0 ∷ 0 ∷ 0
+    ∷ 0 ∷ 4 ∷ 0
+    ∷ 0 ∷ 1 ∷ 0 ∷ 0 ∷ 1 ∷ 0 ∷ 2
+    ∷ 0 ∷ 1 ∷ 0 ∷ 2 ∷ 2 ∷ 0 ∷ 0
+    ∷ 2 ∷ 2 ∷ 3 ∷ 0 ∷ 0 ∷ 0 ∷ 1 ∷ []
+
+limits : List ℕ → List ℕ
+limits bs = take 9 (readModel bs .model .invariant)
 
 -- the refusals; then the plan's limits and lows, three places to a location or an edge: each stay field is 0, which means the ceiling
 answers :
-    (map (λ (bs : List ℕ). readModel bs .refusal) cases ≡ 0 ∷ 0 ∷ 1 ∷ 2 ∷ 0 ∷ 3 ∷ 0 ∷ 4 ∷ 5 ∷ 6 ∷ 7 ∷ [])
+    (map (λ (bs : List ℕ). readModel bs .refusal) cases ≡ 0 ∷ 0 ∷ 1 ∷ 2 ∷ 0 ∷ 3 ∷ 0 ∷ 4 ∷ 5 ∷ 6 ∷ 7 ∷ 0 ∷ 3 ∷ 3 ∷ [])
     × (take 12 (readModel plan .model .invariant) ≡ 2 ∷ 2 ∷ 0 ∷ 2 ∷ 2 ∷ 0 ∷ 2 ∷ 2 ∷ 0 ∷ 2 ∷ 2 ∷ 0 ∷ [])
     × (take 12 (readModel plan .model .lower) ≡ 1 ∷ 1 ∷ 0 ∷ 0 ∷ 0 ∷ 0 ∷ 0 ∷ 2 ∷ 0 ∷ 0 ∷ 2 ∷ 0 ∷ [])
-unfolding cases plan readModel parseModel parseCounts parseBody each kindAt invariantAt endsAt guardAt resolved fieldAt readNumber unreset hasCycle survivors roundOf markEdge
+unfolding cases plan leaving readModel parseModel parseCounts parseBody each kindAt invariantAt endsAt guardAt resolved fieldAt readNumber unreset hasCycle survivors roundOf markEdge
 answers = (refl, refl, refl)
+
+-- mark 1 means the ceiling; mark 2 the greatest high end clock by clock, of edges that never open and of loops too, and the ceiling where none leaves
+blanked :
+    (limits (blanks 1) ≡ 3 ∷ 3 ∷ 0 ∷ 3 ∷ 3 ∷ 0 ∷ 3 ∷ 3 ∷ 0 ∷ [])
+    × (limits (blanks 2) ≡ 2 ∷ 2 ∷ 0 ∷ 3 ∷ 3 ∷ 0 ∷ 3 ∷ 1 ∷ 0 ∷ [])
+    × (readModel (blanks 1) .mark ≡ 1) × (readModel (blanks 2) .mark ≡ 2) × (readModel (blanks 3) .mark ≡ 0)
+unfolding blanks limits leaving readModel parseModel parseCounts parseBody each kindAt invariantAt endsAt guardAt resolved fieldAt readNumber unreset hasCycle survivors roundOf markEdge
+blanked = (refl, refl, refl, refl, refl)

@@ -9,24 +9,35 @@ use borrow.Author.Tests.{eqb-false}
 use Rattle.number.proofs.Laws.{cond-ind}
 use Rattle.model.specs.declared.Model.{Model}
 use Rattle.limits.specs.Limits.{maxClocks, maxLocations, maxEdges}
-use Rattle.model.specs.Model.{slot, Lawful, Tidy}
-use Rattle.model.specs.Parse.{resolve, meantAt, resolved, withArrays}
+use Rattle.stay_limits.specs.Stay.{resolve}
+use Rattle.stay_limits.proofs.Leaving.{leaving-most}
+use Rattle.model.specs.Model.{slot, sourceOf, highAt, Lawful, Tidy}
+use Rattle.model.specs.Parse.{defaultAt, limitOf, meantAt, resolved, withArrays}
 use Rattle.model.proofs.Arrays.{zeros, row-length, row-in, row-out, row-at, grid, grid-length, grid-in, grid-out, grid-at}
 use Rattle.model.proofs.Drafts.{Draft, InRange, blankOf, drawn, put-limits}
 
--- a limit is at most the ceiling
+-- a limit is at most the ceiling, and so is what a blank stands for
 resolve-most : (m v : ℕ) → v ≤ m + 1 → resolve m v ≤ m
 resolve-most m v h = cond-ind (λ (k : ℕ). k ≤ m) (eqb v 0) (λ q. omega arith) (λ q. omega (arith, eqb-false v 0 q))
+
+pub default-most : (mark : ℕ) (m : Model) (l x : ℕ) → ((e : ℕ) → highAt m e x ≤ m .ceiling) → defaultAt mark m l x ≤ m .ceiling
+default-most mark m l x h =
+    cond-ind (λ (k : ℕ). k ≤ m .ceiling) (eqb mark 1) (λ q. omega arith)
+    (λ q. resolve-most (m .ceiling) _ (leaving-most (sourceOf m) (λ e. highAt m e x) l (m .ceiling) (m .edges) (λ e _. h e)))
+
+limit-most : (mark : ℕ) (m : Model) (l x v : ℕ) → ((e : ℕ) → highAt m e x ≤ m .ceiling) → v ≤ m .ceiling + 1 → limitOf mark m l x v ≤ m .ceiling
+limit-most mark m l x v h k =
+    cond-ind (λ (b : ℕ). b ≤ m .ceiling) (eqb v 0) (λ q. default-most mark m l x h) (λ q. omega (arith, eqb-false v 0 q))
 
 abbrev pub final : Draft → Model
 final d =
     withArrays (blankOf d) (drawn d .kind)
-    (grid (d .locations) (d .clocks) (meantAt (drawn d)) (drawn d .invariant))
+    (grid (d .locations) (d .clocks) (meantAt (d .mark) (drawn d)) (drawn d .invariant))
     (drawn d .source) (drawn d .target) (drawn d .reset) (drawn d .lower) (drawn d .upper)
 
-pub resolved-draft : (d : Draft) → resolved (drawn d) ≡ final d
+pub resolved-draft : (d : Draft) → resolved (d .mark) (drawn d) ≡ final d
 unfolding resolved
-resolved-draft d = put-limits (blankOf d) (d .clocks) (d .locations) (meantAt (drawn d)) _ _ _ _ _ _ _
+resolved-draft d = put-limits (blankOf d) (d .clocks) (d .locations) (meantAt (d .mark) (drawn d)) _ _ _ _ _ _ _
 
 module _ (d : Draft) (g : InRange d) where
   few : d .clocks ≤ maxClocks
@@ -41,16 +52,17 @@ module _ (d : Draft) (g : InRange d) where
 
   limits-length : length (final d .invariant) ≡ maxClocks * maxLocations
   limits-length =
-      grid-length (d .clocks) few (meantAt (drawn d)) (drawn d .invariant) (d .locations)
+      grid-length (d .clocks) few (meantAt (d .mark) (drawn d)) (drawn d .invariant) (d .locations)
       ∙ grid-length (d .clocks) few (λ i y. d .place i .1 y) (replicate (maxClocks * maxLocations) 0) (d .locations)
 
   fields-length : length (drawn d .invariant) ≡ maxClocks * maxLocations
   fields-length = grid-length (d .clocks) few (λ i y. d .place i .1 y) (replicate (maxClocks * maxLocations) 0) (d .locations)
 
-  pub final-limit : (l x : ℕ) → l < d .locations → x < d .clocks → getD (final d .invariant) (slot l x) 0 ≡ resolve (d .ceiling) (d .place l .1 x)
+  pub final-limit : (l x : ℕ) → l < d .locations → x < d .clocks
+      → getD (final d .invariant) (slot l x) 0 ≡ limitOf (d .mark) (final d) l x (d .place l .1 x)
   final-limit l x h k =
-      grid-in (d .clocks) few (meantAt (drawn d)) (drawn d .invariant) (d .locations) l x h k (omega (arith, g .locations .1, fields-length))
-      ∙ ap (resolve (d .ceiling)) (drawn-field l x h k)
+      grid-in (d .clocks) few (meantAt (d .mark) (drawn d)) (drawn d .invariant) (d .locations) l x h k (omega (arith, g .locations .1, fields-length))
+      ∙ ap (limitOf (d .mark) (drawn d) l x) (drawn-field l x h k)
 
   module _ (e : ℕ) (h : e < d .edges) where
     pub final-source : getD (final d .source) e 0 ≡ d .link e .0 .source
@@ -75,7 +87,7 @@ module _ (d : Draft) (g : InRange d) where
       record {
         kind = λ i h. row-out (λ j. d .place j .0) _ (d .locations) i h ∙ zeros maxLocations i;
         invariant = λ i x h o.
-            grid-out (d .clocks) few (meantAt (drawn d)) (drawn d .invariant) (d .locations) i x h o
+            grid-out (d .clocks) few (meantAt (d .mark) (drawn d)) (drawn d .invariant) (d .locations) i x h o
             ∙ grid-out (d .clocks) few (λ j y. d .place j .1 y) _ (d .locations) i x h o ∙ zeros (maxClocks * maxLocations) (slot i x);
         source = λ i h. row-out (λ j. d .link j .0 .source) _ (d .edges) i h ∙ zeros maxEdges i;
         target = λ i h. row-out (λ j. d .link j .0 .target) _ (d .edges) i h ∙ zeros maxEdges i;
@@ -88,6 +100,12 @@ module _ (d : Draft) (g : InRange d) where
 
   some : 1 ≤ d .locations
   some = g .locations .0
+
+  upper-range : (i : ℕ) → getD (final d .upper) i 0 < d .ceiling + 1
+  upper-range =
+      grid-at (λ (i : ℕ). getD (final d .upper) i 0 < d .ceiling + 1) (d .edges) (d .clocks)
+      (λ i x h k. omega (arith, final-high i h x k, g .link i h .1 x k .1))
+      (λ i x h o. omega (arith, final-tidy .upper i x h o))
 
   pub final-lawful : Lawful (final d)
   final-lawful =
@@ -111,7 +129,7 @@ module _ (d : Draft) (g : InRange d) where
           kind = row-at (λ (i : ℕ). getD (final d .kind) i 0 < 2) (d .locations)
               (λ i h. omega (arith, final-kind i h, g .place i h .0)) (λ i h. omega (arith, t .kind i h));
           invariant = grid-at (λ (i : ℕ). getD (final d .invariant) i 0 < d .ceiling + 1) (d .locations) (d .clocks)
-              (λ i x h k. omega (arith, final-limit i x h k, resolve-most (d .ceiling) (d .place i .1 x) (g .place i h .1 x k)))
+              (λ i x h k. omega (arith, final-limit i x h k, limit-most (d .mark) (final d) i x (d .place i .1 x) (λ e. omega (arith, upper-range (slot e x))) (g .place i h .1 x k)))
               (λ i x h o. omega (arith, t .invariant i x h o));
           source = row-at (λ (i : ℕ). getD (final d .source) i 0 < d .locations) (d .edges)
               (λ i h. omega (arith, final-source i h, g .link i h .0 .0, some)) (λ i h. omega (arith, t .source i h, some));
@@ -122,8 +140,6 @@ module _ (d : Draft) (g : InRange d) where
           lower = grid-at (λ (i : ℕ). getD (final d .lower) i 0 ≤ getD (final d .upper) i 0) (d .edges) (d .clocks)
               (λ i x h k. omega (arith, final-low i h x k, final-high i h x k, g .link i h .1 x k .0))
               (λ i x h o. omega (arith, t .lower i x h o));
-          upper = grid-at (λ (i : ℕ). getD (final d .upper) i 0 < d .ceiling + 1) (d .edges) (d .clocks)
-              (λ i x h k. omega (arith, final-high i h x k, g .link i h .1 x k .1))
-              (λ i x h o. omega (arith, t .upper i x h o));
+          upper = upper-range;
         };
       }

@@ -14,7 +14,11 @@ use Rattle.number.proofs.Spelling.{spell-append}
 use Rattle.spelling.specs.Lays.{Lays, maxBytes}
 use Rattle.canonical.proofs.Shortest.{plan-most}
 use Rattle.spelling.proofs.Lays.{lays-none, lays-then, lays-as}
+use Rattle.limits.specs.Limits.{maxClocks, maxEdges}
+use Rattle.stay_limits.specs.Stay.{Highs}
+use Rattle.model.specs.declared.Model.{Model}
 use Rattle.model.specs.declared.Reading.{Reading}
+use Rattle.model.specs.Parse.{defaultAt}
 use Rattle.model.specs.Each.{gather}
 use Rattle.model.specs.Model.{limitAt, Lawful}
 use Rattle.canonical.specs.Canonical.{numbersOf, planNumbers, shortestPlan, headerNumbers, stayNumbers, locationNumbers, edgeNumbers}
@@ -94,11 +98,16 @@ plan-room r ok = omega (arith, plan-most r ok)
 
 -- ---- a stay field
 
-pub stay-blank : (r : Reading) (l x : ℕ) → limitAt (r .model) l x ≡ r .model .ceiling → 0 ∷ [] ≡ stayNumbers r l x
-stay-blank r l x e = simp (eq-eqb _ _ e)
+pub stay-blank : (r : Reading) (l x b : ℕ) → b ≡ defaultAt (r .mark) (r .model) l x → limitAt (r .model) l x ≡ b → 0 ∷ [] ≡ stayNumbers r l x
+stay-blank r l x b d e = simp (eq-eqb (limitAt (r .model) l x) _ (e ∙ d))
 
-pub stay-written : (r : Reading) (l x : ℕ) → (limitAt (r .model) l x ≡ r .model .ceiling → ⊥) → (limitAt (r .model) l x + 1) ∷ [] ≡ stayNumbers r l x
-stay-written r l x e = simp (ne-eqb _ _ e)
+pub stay-written : (r : Reading) (l x b : ℕ) → b ≡ defaultAt (r .mark) (r .model) l x → (limitAt (r .model) l x ≡ b → ⊥)
+    → (limitAt (r .model) l x + 1) ∷ [] ≡ stayNumbers r l x
+stay-written r l x b d ne = simp (ne-eqb (limitAt (r .model) l x) _ (λ e. ne (e ∙ sym d)))
+
+-- what the edges of a lawful model need for it
+pub blank-needs : (m : Model) → Lawful m → (x : ℕ) → x < maxClocks → ((m .edges ≤ maxEdges) × (x < maxClocks)) × Highs (m .upper)
+blank-needs m ok x h = ((ok .edges, h), λ i. omega (arith, ok .ranges .upper i, ok .ceiling))
 
 pub spelled-same : {o o₁ : List ℕ} {at r : ℕ} {vs ws : List ℕ} → Lays o o₁ at r (spellAll vs) → vs ≡ ws → Lays o o₁ at r (spellAll ws)
 spelled-same a e = lays-as a (ap spellAll e)

@@ -12,8 +12,7 @@ ghost use Rattle.model.specs.Model.{Lawful};
 ghost use Rattle.canonical.specs.Canonical.{headerNumbers, stayNumbers, guardNumbers, locationNumbers, edgeNumbers, shortestPlan};
 use model::Reading;
 use model::STRIDE;
-
-const MARK: u8 = 1;
+use stay_limits::blank_limit;
 
 // A number of the plan.
 fn put(out: &mut [u8], at: usize, v: u8) -> usize
@@ -37,18 +36,25 @@ fn put_numbers(values: &[u8], out: &mut [u8], at: usize) -> usize
     end
 }
 
-// The stay field of a location for a clock: 0 for the ceiling, else one more than the limit.
+// The stay field of a location for a clock: 0 where a blank means the limit, else one more than the limit.
+fn stay_field(r: Reading, l: usize, x: usize) -> u8
+    requires { ⌜ Lawful (r .model) × (l < maxLocations) × (x < maxClocks) ⌝ }
+    ensures { λ v. ⌜ v ∷ [] ≡ stayNumbers r l x ⌝ }
+{
+    let m = r.model;
+    let limit = m.invariant[STRIDE * l + x];
+    if limit == blank_limit(r.mark, m.ceiling, m.edges, m.source, m.upper, l, x) {
+        return 0;
+    }
+    limit + 1
+}
+
 fn put_stay(r: Reading, l: usize, x: usize, out: &mut [u8], at: usize) -> usize
     requires { ⌜ Lawful (r .model) × (l < maxLocations) × (x < maxClocks) ⌝ }
     requires { ⌜ at + length (spellAll (stayNumbers r l x)) ≤ maxBytes ⌝ }
     ensures { λ a. ⌜ Lays (now (out .entry)) (now (out .exit)) at a (spellAll (stayNumbers r l x)) ⌝ }
 {
-    let m = r.model;
-    let limit = m.invariant[STRIDE * l + x];
-    if limit == m.ceiling {
-        return put(out, at, 0);
-    }
-    put(out, at, limit + 1)
+    put(out, at, stay_field(r, l, x))
 }
 
 fn put_stays(r: Reading, l: usize, out: &mut [u8], at: usize) -> usize
@@ -155,7 +161,7 @@ fn put_header(r: Reading, out: &mut [u8]) -> usize
 {
     let m = r.model;
     put_numbers(
-        &[MARK, m.clocks, m.ceiling, m.locations, m.edges, m.start],
+        &[r.mark, m.clocks, m.ceiling, m.locations, m.edges, m.start],
         out,
         0,
     )

@@ -9,6 +9,7 @@ mod alike;
 mod memory;
 mod pieces;
 mod plans;
+mod remarked;
 mod rows;
 mod tally;
 
@@ -17,6 +18,7 @@ use alike::{harm_alike, judge_alike, sheet_margin_alike};
 use memory::{length_near, rooms, Lent};
 use pieces::{pieces, Others};
 use plans::plans_alike;
+use remarked::remarked_alike;
 use rows::long;
 use second::generate::{generate, KINDS};
 use second::random::Random;
@@ -104,6 +106,8 @@ fn agree(
         .unwrap_or(20);
     answered(model, random, states, tally).map_err(about_model)?;
     plans_alike(model, random, tally).map_err(|what| about_model(format!("plan: {what}")))?;
+    remarked_alike(model, random, states, tally)
+        .map_err(|what| about_model(format!("other mark: {what}")))?;
     let lent = Lent::near(random, states);
     let room = length_near(random, states);
     marks_alike(model, &lent, room, random).map_err(about_model)?;

@@ -13,7 +13,7 @@ const SPARE: usize = 5;
 /// enough and longer. Another spelling of the plan gives the same bytes, and
 /// so do these; no spelling met is shorter.
 pub fn plans_alike(model: &[u8], random: &mut Random, tally: &mut Tally) -> Result<(), String> {
-    let Ok(read) = second::read_model(model) else {
+    let Ok(read) = second::read_plan(model) else {
         for room in rooms(random, 0) {
             tally.shortened(model, &plan_alike(model, room, random)?);
         }

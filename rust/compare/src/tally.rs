@@ -74,12 +74,21 @@ struct Harms {
     rate: u64,
 }
 
+/// Accepted plans of a mark, and how many get another verdict in the other.
+#[derive(Default)]
+struct Marked {
+    count: u64,
+    turned: u64,
+}
+
 #[derive(Default)]
 pub struct Tally {
     /// Safe and unsafe models.
     judged: [u64; 2],
     /// Models by the refusal.
     unjudged: [u64; SCRATCH_TOO_SHORT as usize + 1],
+    /// By the mark.
+    marked: BTreeMap<u32, Marked>,
     plans: Plans,
     margins: Margins,
     harms: Harms,
@@ -101,6 +110,12 @@ impl Tally {
             Ok(judgement) => self.judged[usize::from(judgement.is_unsafe)] += 1,
             Err(refusal) => self.unjudged[usize::from(*refusal)] += 1,
         }
+    }
+
+    pub fn remarked(&mut self, mark: u32, is_turned: bool) {
+        let marked = self.marked.entry(mark).or_default();
+        marked.count += 1;
+        marked.turned += u64::from(is_turned);
     }
 
     pub fn shortened(&mut self, model: &[u8], answer: &Result<Vec<u8>, u8>) {
@@ -164,6 +179,12 @@ impl fmt::Display for Tally {
             f,
             "models: safe {safe}, unsafe {is_unsafe}, refused 1 to 8 {refused:?}"
         )?;
+        for (mark, Marked { count, turned }) in &self.marked {
+            writeln!(
+                f,
+                "  of mark {mark}: {count}, of which the other mark turns the verdict of {turned}"
+            )?;
+        }
         writeln!(f, "plans in shortest form: {}", self.plans)?;
         let Margins { count, greatest } = &self.margins;
         writeln!(f, "margins: {count}, greatest {greatest}")?;

@@ -2,9 +2,10 @@
 
 use crate::flaw::{Flaw, Numbers};
 use crate::loops::unreset_loops;
+use crate::mistake::range_words;
 use crate::{Edge, Location, Plan, Units};
 use second::draft::{Draft, DraftEdge};
-use second::model::{Field, Model};
+use second::model::{Field, Reading};
 use second::refusal::CLOCK_UNRESET;
 use std::ops::RangeInclusive;
 
@@ -12,6 +13,7 @@ use std::ops::RangeInclusive;
 pub fn encode(plan: &Plan) -> Vec<u8> {
     let locations = plan.locations.iter();
     Draft {
+        mark: plan.mark.into(),
         clocks: plan.clocks.len(),
         ceiling: plan.ceiling.into(),
         start: plan.start,
@@ -22,7 +24,7 @@ pub fn encode(plan: &Plan) -> Vec<u8> {
     .bytes()
 }
 
-/// 0 stands for the ceiling, any other s for limit s-1.
+/// 0 stands for a blank limit, any other s for limit s-1.
 fn stay_fields(location: &Location) -> Vec<u32> {
     let field = |limit: &Option<u8>| limit.map_or(0, |limit| u32::from(limit) + 1);
     location.stay.iter().map(field).collect()
@@ -43,16 +45,16 @@ fn drafted(edge: &Edge) -> DraftEdge {
 pub fn decode(bytes: &[u8]) -> Result<Plan, Flaw> {
     let mut numbers = Numbers::of_plan(bytes);
     let mut stays = Vec::new();
-    let model = Model::from_fields(&mut |field, range| {
+    let reading = Reading::from_fields(&mut |field, range| {
         let number = number_within(&mut numbers, field, range)?;
-        // A model has the limit alone, a plan also whether it was given.
+        // A model has the limit alone, a plan also whether it was written.
         if let Field::Stay { .. } = field {
             stays.push(number.checked_sub(1).map(|limit| limit as u8));
         }
         Ok(number)
     })?;
     numbers.end("the model")?;
-    let plan = plan_of(&model, &stays);
+    let plan = plan_of(&reading, &stays);
     for clock in 0..plan.clocks.len() {
         let edges: Vec<&Edge> = plan.edges.iter().collect();
         if let Some(found) = unreset_loops(plan.locations.len(), &edges, clock).first() {
@@ -62,11 +64,14 @@ pub fn decode(bytes: &[u8]) -> Result<Plan, Flaw> {
     Ok(plan)
 }
 
-/// A model with plain names, and with the stay limits as they were given.
-fn plan_of(model: &Model, stays: &[Option<u8>]) -> Plan {
+/// A model with plain names, with its mark, and with the stay limits as they
+/// were written.
+fn plan_of(reading: &Reading, stays: &[Option<u8>]) -> Plan {
+    let Reading { mark, model } = reading;
     let locations = model.locations.iter().zip(stays.chunks(model.clocks));
     let edges = model.edges.iter();
     Plan {
+        mark: *mark as u8,
         clocks: vec![String::new(); model.clocks],
         ceiling: model.ceiling,
         start: model.start,
@@ -121,12 +126,8 @@ fn number_within(
     if (low..=high).contains(&number) {
         return Ok(number);
     }
-    let range = if low == high {
-        format!("must be {low}")
-    } else {
-        format!("must be {low} to {high}")
-    };
-    let words = format!("{what}: it is {number}, but {range}");
+    let range = range_words(low, high);
+    let words = format!("{what}: it is {number}, but must be {range}");
     Err(numbers.flaw(field.refusal(), &words))
 }
 

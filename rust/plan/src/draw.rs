@@ -10,7 +10,7 @@ use crate::svg::*;
 use crate::tell::edge_name;
 use crate::tell::story::{loop_name, Story};
 use crate::trail::Step;
-use crate::Plan;
+use crate::{Plan, BY_LAST_EDGE, EDGES_MARK};
 use legend::{legend, loops_told, Entry};
 use lines::{bold, centred, column, extent, large, plain, Line};
 
@@ -87,7 +87,7 @@ impl<'a> Drawing<'a> {
         let inner = bounds.width.max(TEXT_WIDTH);
         let above = self.heading(heading, inner);
         let told = loops_told(self.plan, &self.story, inner);
-        let signs = legend(&self.marks, &self.story, inner);
+        let signs = legend(self.plan, &self.marks, &self.story, inner);
 
         let top = MARGIN + extent(&above).1 + LINE;
         let bottom = top + bounds.height + 1.5 * LINE;
@@ -110,7 +110,14 @@ impl<'a> Drawing<'a> {
     fn heading(&self, heading: &Heading, width: f64) -> Vec<Line> {
         let plural = if self.plan.clocks.len() == 1 { "" } else { "s" };
         let clocks = self.plan.clocks.join(", ");
-        let about = format!("clock{plural} {clocks}; ceiling {}", self.plan.ceiling);
+        let mark = match self.plan.mark {
+            EDGES_MARK => format!("; mark {EDGES_MARK}"),
+            _ => String::new(),
+        };
+        let about = format!(
+            "clock{plural} {clocks}; ceiling {}{mark}",
+            self.plan.ceiling
+        );
         let verdict = heading.verdict.map(|verdict| large(verdict, PLAIN));
         let lines = [bold(heading.title, PLAIN)]
             .into_iter()
@@ -231,11 +238,21 @@ fn location_lines(plan: &Plan, at: usize, mark: &Mark) -> Vec<Line> {
     if location.forbidden {
         lines.push(bold("forbidden", FORBIDDEN));
     }
-    for limit in broken(&plan.stay_words(at)) {
-        lines.push(plain(&format!("stay {}", pretty(&limit)), PLAIN));
-    }
+    lines.extend(stay_lines(plan, at));
     lines.extend(mark_lines(mark, "wait"));
     lines
+}
+
+/// The stay limits that hold; what tells those of the last edge apart stands
+/// below them, so that no box becomes wider by it.
+fn stay_lines(plan: &Plan, at: usize) -> Vec<Line> {
+    let stay = |limits: &String| plain(&format!("stay {}", pretty(limits)), PLAIN);
+    let written = broken(&plan.stay_words(at));
+    let by_edges = broken(&plan.last_edge_words(at));
+    let by_edges = by_edges
+        .iter()
+        .flat_map(|limits| [stay(limits), plain(BY_LAST_EDGE, PLAIN)]);
+    written.iter().map(stay).chain(by_edges).collect()
 }
 
 fn edge_lines(plan: &Plan, at: usize, mark: &Mark) -> Vec<Line> {

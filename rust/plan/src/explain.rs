@@ -4,7 +4,7 @@ use crate::bytes::encode;
 use crate::flaw::{Flaw, Numbers};
 use crate::sheet::read_sheet;
 use crate::trail::read_trail;
-use crate::Plan;
+use crate::{Plan, CEILING_MARK, EDGES_MARK};
 use second::calls::states_of;
 use second::limits::{MAX_CEILING, MAX_CLOCKS, MAX_EDGES, MAX_LOCATIONS};
 use second::numbers::shortest;
@@ -31,8 +31,10 @@ const REFUSALS: [(&str, &str); LAST as usize] = [
     ("a number of the header is out of range", ""),
     (
         "a number of a location is out of range",
-        "A location's kind is 0 (ordinary) or 1 (forbidden); each stay field is 0 for the \
-         ceiling, or one more than the limit, so at most the ceiling plus 1.",
+        "A location's kind is 0 (ordinary) or 1 (forbidden); each stay field is one more than \
+         the limit, so at most the ceiling plus 1, or 0 if it is left blank. A blank one means \
+         the ceiling in a plan with mark 1. With mark 2 it means the greatest high for that \
+         clock among the edges that leave the location, or the ceiling where no edge leaves.",
     ),
     (
         "a number of an edge is out of range, or a low is above its high",
@@ -99,9 +101,11 @@ const REFUSALS: [(&str, &str); LAST as usize] = [
 
 fn header_advice() -> String {
     format!(
-        "A plan begins with the mark 1, then clocks (1 to {MAX_CLOCKS}), ceiling (1 to \
-         {MAX_CEILING}), locations (1 to {MAX_LOCATIONS}), edges (0 to {MAX_EDGES}) and the \
-         start location, which must be one of the locations."
+        "A plan begins with the mark, {CEILING_MARK} or {EDGES_MARK}, then clocks (1 to \
+         {MAX_CLOCKS}), ceiling (1 to {MAX_CEILING}), locations (1 to {MAX_LOCATIONS}), edges (0 \
+         to {MAX_EDGES}) and the start location, which must be one of the locations. The mark \
+         says what a stay field of 0 means: with {CEILING_MARK} the ceiling, with {EDGES_MARK} \
+         the greatest high of the edges that leave the location, or the ceiling where none does."
     )
 }
 
@@ -126,7 +130,7 @@ pub fn about(number: Refusal, plan: Result<&Plan, &Flaw>, evidence: Option<&[u8]
     match (number, evidence) {
         (SCRATCH_TOO_SHORT, _) => room_words(states),
         (OUTPUT_TOO_SHORT, _) => {
-            // The ceiling as a stay limit is as long spelt out as left out.
+            // A stay limit is as long spelt out as left blank.
             let (sheet, shortest) = (sheet_room(states), encode(plan).len());
             format!(
                 "here: the marks take {states} bytes; a sheet takes at most {sheet}; the plan's \

@@ -29,5 +29,5 @@ mod plan;
 
 pub use flaw::Flaw;
 pub use mistake::Mistake;
-pub use plan::{Edge, Location, Plan};
+pub use plan::{Edge, Location, Plan, BY_LAST_EDGE, CEILING_MARK, EDGES_MARK};
 pub use units::Units;

@@ -76,6 +76,15 @@ pub fn all_shown(mistakes: &[Mistake], file: &str, text: &str) -> String {
     format!("{shown}{count}\n")
 }
 
+/// The numbers from a low to a high, in words.
+pub fn range_words(low: u32, high: u32) -> String {
+    match high - low {
+        0 => low.to_string(),
+        1 => format!("{low} or {high}"),
+        _ => format!("{low} to {high}"),
+    }
+}
+
 /// A name for a list of names.
 pub fn shortened(name: &str) -> String {
     cut(name, LONGEST_LISTED)

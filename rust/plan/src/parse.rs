@@ -7,8 +7,8 @@ use crate::mistake::{guess, nearest, Mistake};
 use crate::units::{halves, Quantity, Slip};
 
 /// Words that a line can begin with.
-const OPENINGS: [&str; 7] = [
-    "clocks", "ceiling", "location", "edge", "unit", "crystal", "bit",
+const OPENINGS: [&str; 8] = [
+    "mark", "clocks", "ceiling", "location", "edge", "unit", "crystal", "bit",
 ];
 
 /// Words that open the further parts of a location's and of an edge's line.
@@ -17,6 +17,9 @@ const EDGE_WORDS: [&str; 2] = ["when", "reset"];
 
 /// Words with a meaning inside a line; a clock cannot be called so.
 pub const RESERVED: [&str; 7] = ["when", "reset", "stay", "start", "forbidden", "and", "all"];
+
+/// Why a ceiling or a limit is whole.
+const WHOLE_UNITS: &str = "is counted in whole units";
 
 /// Which ends of a clock's range a condition sets.
 #[derive(Clone, Copy, Debug, PartialEq, Eq)]
@@ -55,11 +58,15 @@ pub struct EdgeLine {
     pub resets_unsure: bool,
 }
 
+/// A line of one number: its first token, and the number if there is one.
+pub type NumberLine = (Token, Option<Token>);
+
 /// What the lines say, with the first token of each.
 #[derive(Debug, Default)]
 pub struct Lines {
+    pub marks: Vec<NumberLine>,
     pub clocks: Vec<(Token, Vec<Token>)>,
-    pub ceilings: Vec<(Token, Option<Token>)>,
+    pub ceilings: Vec<NumberLine>,
     pub locations: Vec<(Token, LocationLine)>,
     pub edges: Vec<(Token, EdgeLine)>,
     pub quantities: Vec<(Token, Quantity, Option<u64>)>,
@@ -81,14 +88,21 @@ impl Lines {
             return;
         };
         let expected =
-            "a line begins with clocks, ceiling, location, edge, unit, crystal or bit rate";
+            "a line begins with mark, clocks, ceiling, location, edge, unit, crystal or bit rate";
         let Some(word) = line.meant(&opening, &OPENINGS, expected) else {
             return;
         };
         opening.text = word.to_string();
         match word {
+            "mark" => {
+                let number = line.only_number("the mark", "is 1 or 2");
+                self.marks.push((opening, number));
+            }
             "clocks" => self.clocks.push((opening, line.names())),
-            "ceiling" => self.ceilings.push((opening, line.ceiling())),
+            "ceiling" => {
+                let number = line.only_number("the ceiling", WHOLE_UNITS);
+                self.ceilings.push((opening, number));
+            }
             "location" => self.locations.push((opening, line.location())),
             "edge" => self.edges.push((opening, line.edge())),
             word => {
@@ -240,10 +254,11 @@ impl<'a> Line<'a> {
         }
     }
 
-    fn ceiling(&mut self) -> Option<Token> {
-        let number = self.number("the ceiling");
+    /// The number of a line that has nothing else.
+    fn only_number(&mut self, what: &str, why: &str) -> Option<Token> {
+        let number = self.number(what, why);
         if number.is_some() && self.tokens.peek().is_some() {
-            self.wrong_here("nothing may follow the number of the ceiling");
+            self.wrong_here(format!("nothing may follow the number of {what}"));
         }
         number
     }
@@ -298,8 +313,9 @@ impl<'a> Line<'a> {
         None
     }
 
-    /// A whole number; anything else that might be meant as one is noted.
-    fn number(&mut self, what: &str) -> Option<Token> {
+    /// A whole number; anything else that might be meant as one is noted, with
+    /// why it must be whole.
+    fn number(&mut self, what: &str, why: &str) -> Option<Token> {
         if let Some(number) = self.takes(|token| token.kind == Kind::Number) {
             return Some(number);
         }
@@ -314,10 +330,7 @@ impl<'a> Line<'a> {
                 .starts_with(|letter: char| letter.is_ascii_digit())
         }) {
             Some(token) => {
-                let words = format!(
-                    "'{}' is not a whole number; {what} is counted in whole units",
-                    token.text
-                );
+                let words = format!("'{}' is not a whole number; {what} {why}", token.text);
                 self.wrong(&token, words);
             }
             None => self.wrong_here(format!("a whole number is missing here, for {what}")),
@@ -486,7 +499,7 @@ impl<'a> Line<'a> {
         if let Some(token) = self.takes(|token| word(token) && !is_clause(token)) {
             return Some(token);
         }
-        self.number("a limit")
+        self.number("a limit", WHOLE_UNITS)
     }
 
     fn comparison(&mut self, before: &Token) -> Option<Token> {

@@ -2,12 +2,13 @@
 //! list of numbers.
 
 use crate::units::Quantity;
-use crate::Plan;
+use crate::{Plan, EDGES_MARK};
 
 /// The text of a plan; what is said by leaving it out is left out.
 pub fn write_text(plan: &Plan) -> String {
     let mut text = format!(
-        "clocks {}\nceiling {}\n{}\n",
+        "{}clocks {}\nceiling {}\n{}\n",
+        mark_line(plan),
         plan.clocks.join(" "),
         plan.ceiling,
         unit_lines(plan)
@@ -28,6 +29,13 @@ pub fn write_text(plan: &Plan) -> String {
 pub fn write_list(bytes: &[u8]) -> String {
     let numbers: Vec<String> = bytes.iter().map(u8::to_string).collect();
     numbers.join(",") + "\n"
+}
+
+fn mark_line(plan: &Plan) -> String {
+    match plan.mark {
+        EDGES_MARK => format!("mark {EDGES_MARK}\n"),
+        _ => String::new(),
+    }
 }
 
 fn unit_lines(plan: &Plan) -> String {

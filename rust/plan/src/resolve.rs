@@ -3,11 +3,12 @@
 
 use crate::lex::Token;
 use crate::loops::unreset_loops;
-use crate::mistake::{guess, shortened, Mistake};
-use crate::parse::{lines, Bound, EdgeLine, End, Lines, LocationLine, RESERVED};
-use crate::{Edge, Location, Plan, Units};
+use crate::mistake::{guess, range_words, shortened, Mistake};
+use crate::parse::{lines, Bound, EdgeLine, End, Lines, LocationLine, NumberLine, RESERVED};
+use crate::{Edge, Location, Plan, Units, CEILING_MARK, EDGES_MARK};
 use second::limits::{MAX_CEILING, MAX_CLOCKS, MAX_EDGES, MAX_LOCATIONS};
 use std::collections::HashMap;
+use std::ops::RangeInclusive;
 
 /// Reads a text plan; or all its mistakes, by line and column.
 pub fn read_text(text: &str) -> Result<Plan, Vec<Mistake>> {
@@ -25,6 +26,7 @@ pub fn read_text(text: &str) -> Result<Plan, Vec<Mistake>> {
         return Err(mistakes);
     }
     Ok(Plan {
+        mark: names.mark,
         clocks: names.clocks,
         ceiling: names.ceiling.expect("a missing ceiling is a mistake"),
         start: names.start.expect("a missing start is a mistake"),
@@ -42,6 +44,7 @@ fn end_of(text: &str) -> (usize, usize) {
 
 /// What has been looked up so far.
 struct Names {
+    mark: u8,
     clocks: Vec<String>,
     ceiling: Option<u8>,
     start: Option<usize>,
@@ -56,6 +59,7 @@ struct Names {
 impl Names {
     fn new(lines: &Lines, end: (usize, usize)) -> Names {
         let mut names = Names {
+            mark: CEILING_MARK,
             clocks: Vec::new(),
             ceiling: None,
             start: None,
@@ -64,6 +68,7 @@ impl Names {
             end,
             mistakes: Vec::new(),
         };
+        names.mark_of(lines);
         names.clock_names(lines);
         names.ceiling_of(lines);
         names.location_names(lines);
@@ -125,28 +130,40 @@ impl Names {
         }
     }
 
+    /// The mark; a plan that says none keeps the first there was.
+    fn mark_of(&mut self, lines: &Lines) {
+        let said = self.said_once("mark", &lines.marks, CEILING_MARK..=EDGES_MARK);
+        self.mark = said.unwrap_or(CEILING_MARK);
+    }
+
     fn ceiling_of(&mut self, lines: &Lines) {
-        let Some((opening, first)) = lines.ceilings.first() else {
+        if lines.ceilings.is_empty() {
             self.missing("the plan has no line with its ceiling, such as: ceiling 2");
-            return;
-        };
-        for (again, _) in &lines.ceilings[1..] {
-            self.wrong(
-                again,
-                format!("the ceiling is already given in line {}", opening.line),
-            );
         }
-        let Some(token) = first else { return };
-        match token.text.parse() {
-            Ok(number) if (1..=MAX_CEILING).contains(&number) => self.ceiling = Some(number),
-            _ => self.wrong(
-                token,
-                format!(
-                    "the ceiling is {}, but it can only be 1 to {MAX_CEILING}",
-                    token.text
-                ),
-            ),
+        self.ceiling = self.said_once("ceiling", &lines.ceilings, 1..=MAX_CEILING);
+    }
+
+    /// The number of a line that may come once, if it is one of these.
+    fn said_once(
+        &mut self,
+        what: &str,
+        said: &[NumberLine],
+        range: RangeInclusive<u8>,
+    ) -> Option<u8> {
+        let ((opening, first), more) = said.split_first()?;
+        for (again, _) in more {
+            let words = format!("the {what} is already given in line {}", opening.line);
+            self.wrong(again, words);
         }
+        let token = first.as_ref()?;
+        let number = token.text.parse().ok();
+        let number = number.filter(|number| range.contains(number));
+        if number.is_none() {
+            let range = range_words((*range.start()).into(), (*range.end()).into());
+            let words = format!("the {what} is {}, but it can only be {range}", token.text);
+            self.wrong(token, words);
+        }
+        number
     }
 
     fn location_names(&mut self, lines: &Lines) {

@@ -235,7 +235,7 @@ impl Replay<'_> {
         if state.region.is_allowed_in(location, self.model.clocks) {
             return Ok(state);
         }
-        let limits = self.plan.stay_words(state.location).join(", ");
+        let limits = self.plan.limit_words(state.location).join(", ");
         let (place, clocks) = (
             self.plan.quoted(state.location),
             region_words(self.plan, &state.region),

@@ -40,7 +40,10 @@ fn assert_clear(layout: &Layout, what: &str) {
 
 #[test]
 fn labels_keep_apart() {
-    for kind in ["tiny", "small", "middle", "largest", "clocks-3", "drift"] {
+    let kinds = [
+        "tiny", "small", "middle", "largest", "clocks-3", "drift", "blank",
+    ];
+    for kind in kinds {
         for seed in 0..60 {
             let plan = decode(&generate(seed, kind).unwrap()).unwrap();
             assert_clear(&layout_of(&plan, None), &format!("{kind} {seed}"));
@@ -50,7 +53,7 @@ fn labels_keep_apart() {
 
 #[test]
 fn labels_keep_apart_under_trails() {
-    for kind in ["tiny", "small", "drift"] {
+    for kind in ["tiny", "small", "drift", "blank"] {
         for seed in 0..40 {
             let plan = decode(&generate(seed, kind).unwrap()).unwrap();
             if let Some(steps) = trail_of(&plan) {
@@ -225,7 +228,7 @@ fn letters_can_be_read_on_a4() {
         let least = if name == "largest" { 7.0 } else { 9.0 };
         assert!(size >= least, "{name}: {size}");
     }
-    for kind in ["small", "middle", "largest", "clocks-3", "drift"] {
+    for kind in ["small", "middle", "largest", "clocks-3", "drift", "blank"] {
         for seed in 0..30 {
             let plan = decode(&generate(seed, kind).unwrap()).unwrap();
             let size = letters_on_a4(&draw(&plan, "", None));

@@ -4,6 +4,7 @@ mod common;
 
 use common::*;
 use plan::bytes::encode;
+use plan::{CEILING_MARK, EDGES_MARK};
 use second::generate::{classify, Class};
 use second::program::{bytes_of_text, judge_lines, OUTPUT};
 use second::widened::run_to_forbidden;
@@ -17,6 +18,7 @@ fn verdicts() {
     assert_eq!(lines("loop"), "verdict unsafe\nstates 132\nsteps 8\n");
     assert_eq!(lines("tiny"), "verdict safe\nstates 3\nin 3\n");
     assert_eq!(lines("poll"), "verdict unsafe\nstates 268\nsteps 9\n");
+    assert_eq!(lines("poll-blank"), lines("poll"));
     assert_eq!(lines("poll-mended"), "verdict safe\nstates 268\nin 41\n");
     assert_eq!(lines("two-repeaters"), "verdict safe\nstates 3532\nin 37\n");
     assert_eq!(lines("hasty"), "verdict unsafe\nstates 1172\nsteps 9\n");
@@ -29,6 +31,7 @@ fn what_perfect_clocks_reach() {
     let class = |name: &str| classify(&example(name).model());
     assert_eq!(class("loop"), Class::Drift);
     assert_eq!(class("poll"), Class::Drift);
+    assert_eq!(class("poll-blank"), Class::Drift);
     assert_eq!(class("hasty"), Class::Plain);
     for name in ["tiny", "poll-mended", "two-repeaters"] {
         assert_eq!(class(name), Class::Safe, "{name}");
@@ -48,6 +51,25 @@ fn runs_with_and_without_drift() {
         assert_eq!(run(name, 1), None, "{name}");
     }
     assert!(run("hasty", 0).is_some());
+}
+
+/// The ring of poll.txt with no stay limit written: mark 2 gives each the same,
+/// and mark 1 would not.
+#[test]
+fn blank_limits_are_those_written_out() {
+    let (written, blank) = (example("poll"), example("poll-blank"));
+    assert_eq!((written.mark, blank.mark), (CEILING_MARK, EDGES_MARK));
+    for (location, clock) in stay_fields(&blank) {
+        assert_eq!(blank.locations[location].stay[clock], None);
+        let [one, other] = [&written, &blank].map(|plan| plan.limit(location, clock));
+        assert_eq!(one, other, "{location} {clock}");
+    }
+    assert_eq!(written.model(), blank.model());
+    let [written, blank] = [written, blank].map(|plan| encode(&plan));
+    assert_eq!(evidence(&written), evidence(&blank));
+    assert_eq!(marks(&written), marks(&blank));
+    let old = [&[CEILING_MARK], &blank[1..]].concat();
+    assert_ne!(marks(&old), marks(&blank));
 }
 
 #[test]

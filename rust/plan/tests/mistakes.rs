@@ -35,7 +35,7 @@ edge blank ringing
     let expected = [
         "1:12 there are two clocks 'x'",
         "2:9 the ceiling is 7, but it can only be 1 to 4",
-        "3:1 a line begins with clocks, ceiling, location, edge, unit, crystal or bit rate, not 'locaton'; did you mean 'location'?",
+        "3:1 a line begins with mark, clocks, ceiling, location, edge, unit, crystal or bit rate, not 'locaton'; did you mean 'location'?",
         "4:23 there is no clock 'w'; the clocks are x, y",
         "5:16 after the name of a location come start, forbidden or stay, not 'forbiden'; did you mean 'forbidden'?",
         "6:6 there is no location 'ringin'; did you mean 'ringing'?",
@@ -91,6 +91,52 @@ fn too_many() {
         mistakes(&format!("clocks x\nceiling 1\nlocation a start\n{edges}")),
         ["28:1 this is edge 25 of the plan: it can have at most 24"]
     );
+}
+
+/// A plan need not say its mark; what it says must be one of the two.
+#[test]
+fn marks() {
+    assert_eq!(
+        one("mark 3"),
+        "5:6 the mark is 3, but it can only be 1 or 2"
+    );
+    assert_eq!(
+        one("mark 0"),
+        "5:6 the mark is 0, but it can only be 1 or 2"
+    );
+    assert_eq!(
+        one("mark 99999999999"),
+        "5:6 the mark is 99999999999, but it can only be 1 or 2"
+    );
+    assert_eq!(
+        one("mark"),
+        "5:5 a whole number is missing here, for the mark"
+    );
+    assert_eq!(
+        one("mark two"),
+        "5:6 a whole number is missing here, for the mark"
+    );
+    assert_eq!(
+        one("mark 1.5"),
+        "5:6 '1.5' is not a whole number; the mark is 1 or 2"
+    );
+    assert_eq!(one("mark -1"), "5:6 the mark cannot be below 0");
+    assert_eq!(
+        one("mark 2 x"),
+        "5:8 nothing may follow the number of the mark"
+    );
+    for again in ["mark 2", "mark 1", "mark 3"] {
+        let found = one(&format!("mark 2\n{again}"));
+        assert_eq!(found, "6:1 the mark is already given in line 5");
+    }
+    assert_eq!(
+        one("marc 2"),
+        "5:1 a line begins with mark, clocks, ceiling, location, edge, unit, crystal or bit rate, \
+         not 'marc'; did you mean 'mark'?"
+    );
+    // It is no word of a line's inside: clocks and locations may be called so.
+    let text = "clocks mark\nceiling 1\nmark 2\nlocation mark start stay mark<=1\n";
+    assert_eq!(read_text(text).unwrap().mark, 2);
 }
 
 #[test]

@@ -27,6 +27,21 @@ fn the_limits_are_named() {
     assert!(refusal_words(3).unwrap().contains(limits));
 }
 
+/// What a blank stay field means, where the header or a location is wrong.
+#[test]
+fn both_marks_are_explained() {
+    for (number, told) in [
+        (3, "A plan begins with the mark, 1 or 2, then clocks"),
+        (3, "a stay field of 0 means: with 1 the ceiling, with 2 the greatest high of the edges that leave"),
+        (4, "or 0 if it is left blank. A blank one means the ceiling in a plan with mark 1."),
+        (4, "With mark 2 it means the greatest high for that clock among the edges that leave"),
+        (4, "or the ceiling where no edge leaves."),
+    ] {
+        let words = refusal_words(number).unwrap();
+        assert!(words.contains(told), "{words}");
+    }
+}
+
 fn words(bytes: &[u8]) -> String {
     let flaw = decode(bytes).expect_err("a refused model");
     format!("{}: {}", flaw.refusal, flaw.words)
@@ -47,8 +62,12 @@ fn which_number_of_a_model() {
         "2: number 2 (from byte 2), the number of clocks: its third byte says that a fourth follows"
     );
     assert_eq!(
-        words(&[2]),
-        "3: number 1 (byte 1), the mark: it is 2, but must be 1"
+        words(&[3]),
+        "3: number 1 (byte 1), the mark: it is 3, but must be 1 or 2"
+    );
+    assert_eq!(
+        words(&[130, 0]),
+        "1: number 2 (from byte 3), the number of clocks: there are only 2 bytes"
     );
     assert_eq!(
         words(&[1, 1, 5]),
@@ -62,6 +81,10 @@ fn which_number_of_a_model() {
     assert_eq!(
         words(&[1, 1, 1, 1, 0, 0, 0, 3]),
         "4: number 8 (byte 8), the stay field of clock 0 in location 0: it is 3, but must be 0 to 2"
+    );
+    assert_eq!(
+        words(&[2, 1, 1, 1, 0, 0, 2, 0]),
+        "4: number 7 (byte 7), the kind of location 0: it is 2, but must be 0 or 1"
     );
     assert_eq!(
         words(&[1, 1, 1, 1, 1, 0, 0, 0, 0, 0, 1, 1, 0]),
@@ -117,7 +140,7 @@ fn about_a_model() {
 fn evidence_is_read_as_it_is_checked() {
     let mut seen = std::collections::BTreeSet::new();
     for seed in 0..2_500 {
-        let kind = ["tiny", "small", "drift", "safe"][seed as usize % 4];
+        let kind = ["tiny", "small", "drift", "safe", "blank"][seed as usize % 5];
         let model = generate(seed, kind).unwrap();
         let ours = evidence(&model);
         let (change, changed) = mutate(seed, &model, &ours);

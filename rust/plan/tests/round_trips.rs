@@ -10,10 +10,13 @@ use plan::units::Quantity;
 use plan::Plan;
 use second::generate::{generate, KINDS};
 use second::random::Random;
-use second::read_model;
+use second::{read_model, read_plan};
 
-const ACCEPTED: [&str; 9] = [
-    "safe", "drift", "plain", "tiny", "small", "middle", "largest", "clocks-1", "clocks-3",
+/// Kinds of models that are accepted and not padded, of both marks; `blank` is
+/// of mark 2 alone.
+const ACCEPTED: [&str; 11] = [
+    "safe", "drift", "plain", "tiny", "small", "middle", "largest", "clocks-1", "clocks-2",
+    "clocks-3", "blank",
 ];
 
 /// A plan with other names, chosen by a seed.
@@ -45,6 +48,7 @@ fn renamed(mut plan: Plan, seed: u64) -> Plan {
 #[test]
 fn bytes_come_back() {
     for kind in ACCEPTED {
+        let mut seen = [0; 2];
         for seed in 0..150 {
             let bytes = generate(seed, kind).unwrap();
             let text = write_text(&decode(&bytes).unwrap());
@@ -53,6 +57,31 @@ fn bytes_come_back() {
                 bytes,
                 "{kind} {seed}\n{text}"
             );
+            seen[usize::from(bytes[0]) - 1] += 1;
+        }
+        let is_enough = |count: usize| count > 40 || kind == "blank";
+        assert!(seen[1] > 40 && is_enough(seen[0]), "{kind} {seen:?}");
+    }
+}
+
+/// The mark comes first where it is 2, and is not said where it is 1.
+#[test]
+fn the_mark_in_the_text() {
+    for kind in ACCEPTED {
+        for seed in 0..60 {
+            let plan = decode(&generate(seed, kind).unwrap()).unwrap();
+            let text = write_text(&plan);
+            let begins = if plan.mark == 2 {
+                "mark 2\nclocks "
+            } else {
+                "clocks "
+            };
+            assert!(text.starts_with(begins), "{text}");
+            assert_eq!(text.matches("mark").count(), usize::from(plan.mark) - 1);
+            // Said outright, mark 1 is the same; and a line may stand anywhere.
+            let rest = text.trim_start_matches("mark 2\n");
+            let said = format!("{rest}\nmark {} # here", plan.mark);
+            assert_eq!(read_text(&said), Ok(plan));
         }
     }
 }
@@ -63,7 +92,7 @@ fn padded_bytes_come_back_short() {
         let bytes = generate(seed, "padded").unwrap();
         let short = encode(&decode(&bytes).unwrap());
         assert!(short.len() < bytes.len());
-        assert_eq!(read_model(&short), read_model(&bytes));
+        assert_eq!(read_plan(&short), read_plan(&bytes));
     }
 }
 
@@ -87,13 +116,26 @@ fn text_comes_back() {
     }
 }
 
+/// A plan has the mark and the limits that the second checker reads.
+fn assert_read(plan: &Plan, bytes: &[u8]) {
+    let reading = read_plan(bytes).unwrap();
+    assert_eq!(
+        (u32::from(plan.mark), plan.model()),
+        (reading.mark, reading.model.clone())
+    );
+    for (location, clock) in stay_fields(plan) {
+        let limit = reading.model.locations[location].limit[clock];
+        assert_eq!(plan.limit(location, clock), limit, "{bytes:?}");
+    }
+}
+
 #[test]
 fn models_are_those_of_the_second_checker() {
     for kind in KINDS {
         for seed in 0..120 {
             let bytes = generate(seed, kind).unwrap();
             match decode(&bytes) {
-                Ok(plan) => assert_eq!(Ok(plan.model()), read_model(&bytes)),
+                Ok(plan) => assert_read(&plan, &bytes),
                 Err(flaw) => assert_eq!(Err(flaw.refusal), read_model(&bytes), "{kind} {seed}"),
             }
         }
@@ -104,14 +146,16 @@ fn models_are_those_of_the_second_checker() {
 /// what is read without one is accepted.
 #[test]
 fn damaged_texts() {
-    const SCRAPS: [&str; 16] = [
+    const SCRAPS: [&str; 17] = [
         "<=", "x", "9", "-", ",", "->", " ", "\n", "reset", "when", "stay", "start", "1.5", "#",
-        "edge", "é",
+        "edge", "mark", "é",
     ];
     let mut mistaken = 0;
     for seed in 0..6_000 {
         let mut random = Random::new(seed);
-        let mut letters: Vec<char> = text(EXAMPLES[seed as usize % 7]).chars().collect();
+        let mut letters: Vec<char> = text(EXAMPLES[seed as usize % EXAMPLES.len()])
+            .chars()
+            .collect();
         for _ in 0..random.range(1, 4) {
             let at = random.below(letters.len());
             let dropped = random.below(6).min(letters.len() - at);

@@ -10,7 +10,7 @@ use crate::graph::Graph;
 use crate::harm::Bound;
 use crate::margin::by_sheet;
 use crate::marking::{distance_to_forbidden, is_unsafe, marked_set};
-use crate::model::{read_model, Model};
+use crate::model::{read_model, read_plan, Model};
 use crate::refusal::*;
 use crate::regions::Regions;
 use crate::sheet::our_sheet;
@@ -154,9 +154,10 @@ pub fn check_evidence(model: &[u8], evidence: &[u8], scratch: Scratch) -> Result
     check(&accept(model, scratch)?, evidence)
 }
 
-/// Writes the shortest form of a model and gives the number of its bytes.
+/// Writes the shortest form of a model, with the mark that it has, and gives the
+/// number of its bytes.
 pub fn write_plan(model: &[u8], out: &mut [u8]) -> Result<usize, Refusal> {
-    put_first(&shortest_plan(&read_model(model)?), out)
+    put_first(&shortest_plan(&read_plan(model)?), out)
 }
 
 /// The margin of the sheet that we write for a safe model.

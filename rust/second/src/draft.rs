@@ -3,7 +3,7 @@
 
 use crate::generate::Class;
 use crate::limits::{MAX_CEILING, MAX_CLOCKS, MAX_EDGES, MAX_LOCATIONS, NUMBER_BYTES};
-use crate::model::{read_model, MARK};
+use crate::model::{read_model, CEILING_MARK, EDGES_MARK};
 use crate::numbers::{push_padded, shortest};
 use crate::random::Random;
 use crate::regions::Regions;
@@ -51,6 +51,7 @@ pub fn pick_shape(random: &mut Random, wanted: impl Fn(&Shape) -> bool) -> Optio
 /// A model before it becomes bytes, in the numbers that stand in the bytes.
 #[derive(Clone, Debug)]
 pub struct Draft {
+    pub mark: u32,
     pub clocks: usize,
     pub ceiling: u32,
     pub start: usize,
@@ -68,8 +69,10 @@ pub struct DraftEdge {
 }
 
 impl Draft {
+    /// One of mark 1 with ordinary locations, blank stay fields and no edges.
     pub fn new(shape: &Shape) -> Draft {
         Draft {
+            mark: CEILING_MARK,
             clocks: shape.clocks,
             ceiling: shape.ceiling,
             start: 0,
@@ -81,7 +84,7 @@ impl Draft {
 
     pub fn numbers(&self) -> Vec<u32> {
         let header = [
-            MARK,
+            self.mark,
             self.clocks as u32,
             self.ceiling,
             self.kinds.len() as u32,
@@ -118,14 +121,10 @@ impl Draft {
         }
     }
 
-    /// Adds random edges, as far as the limit allows. One that would
-    /// close a walk with a clock unreset resets all clocks instead.
+    /// Adds random edges, as far as the limit allows.
     fn add_random_edges(&mut self, random: &mut Random, count: usize) {
+        let locations = self.kinds.len();
         for _ in 0..count {
-            if self.edges.len() == MAX_EDGES {
-                return;
-            }
-            let locations = self.kinds.len();
             let mask = random.below(1 << self.clocks) as u32;
             let mut edge = self.open_edge(random.below(locations), random.below(locations), mask);
             for bounds in &mut edge.guard {
@@ -134,24 +133,50 @@ impl Draft {
                     *bounds = (low as u32, random.range(low, self.ceiling as usize) as u32);
                 }
             }
-            self.edges.push(edge);
-            if read_model(&self.bytes()).is_err() {
-                self.edges.last_mut().expect("just added").mask = self.all_clocks();
-            }
+            self.add_edge(edge);
         }
     }
 
-    /// Spells some invariants in other ways, and narrows some if asked to.
+    /// Adds an edge, as far as the limit allows. One that would close a walk
+    /// with a clock unreset resets all clocks instead.
+    pub fn add_edge(&mut self, edge: DraftEdge) {
+        if self.edges.len() == MAX_EDGES {
+            return;
+        }
+        self.edges.push(edge);
+        if read_model(&self.bytes()).is_err() {
+            self.edges.last_mut().expect("just added").mask = self.all_clocks();
+        }
+    }
+
+    /// Per location and clock, the stay field that spells out what a blank one
+    /// means.
+    pub fn spelt_out_blanks(&self) -> Vec<Vec<u32>> {
+        let mut blank = self.clone();
+        blank.stays.iter_mut().flatten().for_each(|stay| *stay = 0);
+        let model = read_model(&blank.bytes()).expect("drafts are accepted");
+        let fields = |limit: &[u8]| limit.iter().map(|&limit| u32::from(limit) + 1).collect();
+        let limits = model.locations.iter().map(|location| &location.limit);
+        limits.map(|limit| fields(&limit[..self.clocks])).collect()
+    }
+
+    /// Spells out some invariants, as the ceiling or as what a blank field
+    /// means; narrows some if asked to.
     fn vary_stays(&mut self, random: &mut Random, narrow: bool) {
-        for stay in self.stays.iter_mut().flatten() {
+        let blanks = self.spelt_out_blanks().concat();
+        for (stay, blank) in self.stays.iter_mut().flatten().zip(blanks) {
             if random.one_in(4) {
-                *stay = self.ceiling + 1;
+                *stay = *random.pick(&[self.ceiling + 1, blank]);
             }
             if narrow && random.one_in(6) {
                 *stay = random.range(0, self.ceiling as usize + 1) as u32;
             }
         }
     }
+}
+
+pub fn random_mark(random: &mut Random) -> u32 {
+    *random.pick(&[CEILING_MARK, EDGES_MARK])
 }
 
 /// Spellings of random lengths, with one padded number at least.
@@ -176,6 +201,7 @@ pub fn padded(random: &mut Random, numbers: &[u32]) -> Vec<u8> {
 /// invariants are added that may spoil this.
 pub fn loop_draft(random: &mut Random, shape: &Shape, class: Class, noise: bool) -> Draft {
     let mut draft = Draft::new(shape);
+    draft.mark = random_mark(random);
     let ceiling = shape.ceiling;
     let mut places: Vec<usize> = (0..shape.locations).collect();
     random.shuffle(&mut places);
@@ -247,6 +273,7 @@ pub fn loop_draft(random: &mut Random, shape: &Shape, class: Class, noise: bool)
 /// A random drawing in which each closed walk resets each clock.
 pub fn random_draft(random: &mut Random, shape: &Shape) -> Draft {
     let mut draft = Draft::new(shape);
+    draft.mark = random_mark(random);
     draft.start = random.below(shape.locations);
     for place in 0..shape.locations {
         let rarely = if place == draft.start { 16 } else { 4 };

@@ -1,17 +1,20 @@
 //! Generated models: deterministic in the seed and the kind.
 //!
-//! Accepted models come from two families: variations of a loop of two
-//! locations that only drift can leave, and random drawings. A model of a
-//! wanted class (safe, unsafe only by drift, unsafe with perfect clocks) is
-//! found by drawing until the class fits, with a sure drawing at the end.
+//! Accepted models come from three families: variations of a loop of two
+//! locations that only drift can leave, random drawings, and drawings whose
+//! edges close early. The mark is drawn for each. A model of a wanted class
+//! (safe, unsafe only by drift, unsafe with perfect clocks), judged by the
+//! limits that its mark gives, is found by drawing until the class fits, with a
+//! sure drawing at the end.
 
+use crate::blanks::{blank_model, early_draft, is_safe_by_its_mark};
 use crate::calls::states_of;
 use crate::components::Components;
-use crate::draft::{loop_draft, padded, pick_shape, random_draft, Draft, Shape};
+use crate::draft::{loop_draft, padded, pick_shape, random_draft, random_mark, Draft, Shape};
 use crate::graph::Graph;
 use crate::limits::{MAX_CEILING, MAX_CLOCKS, MAX_EDGES, MAX_LOCATIONS, MAX_STATES};
 use crate::marking::{is_unsafe, reached, Closure};
-use crate::model::{read_model, Field, Model};
+use crate::model::{read_model, read_plan, Field, Model, Reading, EDGES_MARK};
 use crate::numbers::{numbers_of, shortest, LARGEST};
 use crate::program::SCRATCH;
 use crate::random::Random;
@@ -20,12 +23,13 @@ use std::collections::BTreeMap;
 use std::convert::Infallible;
 
 /// The kinds that `generate` knows.
-pub const KINDS: [&str; 21] = [
+pub const KINDS: [&str; 22] = [
     "safe",
     "drift",
     "plain",
     "padded",
     "respelled",
+    "blank",
     "tiny",
     "small",
     "middle",
@@ -86,6 +90,7 @@ pub fn generate(seed: u64, kind: &str) -> Option<Vec<u8>> {
         "plain" => accepted(random, Some(Class::Plain), usual).bytes(),
         "padded" => padded_model(random),
         "respelled" => respelled_model(random),
+        "blank" => blank_model(random).bytes(),
         "tiny" => accepted(random, None, |shape| shape.states() <= TINY).bytes(),
         "small" => accepted(random, None, |shape| {
             (TINY + 1..=SMALL).contains(&shape.states())
@@ -137,7 +142,7 @@ pub const SMALL: usize = 160;
 pub const MIDDLE: usize = SCRATCH;
 
 /// So many drawings are tried for a class, at first with noise.
-const TRIES: usize = 24;
+pub const TRIES: usize = 24;
 
 /// Sizes of models whose kind does not name a size.
 fn usual(shape: &Shape) -> bool {
@@ -158,7 +163,10 @@ fn accepted(random: &mut Random, class: Option<Class>, wanted: impl Fn(&Shape) -
         }
     }
     for attempt in 0..TRIES {
-        let draft = if shape.has_room_for_drift() && (class == Class::Drift || random.one_in(2)) {
+        let draft = if random.one_in(4) {
+            let mark = random_mark(random);
+            early_draft(random, &shape, mark)
+        } else if shape.has_room_for_drift() && (class == Class::Drift || random.one_in(2)) {
             loop_draft(random, &shape, class, attempt < TRIES / 2)
         } else {
             random_draft(random, &shape)
@@ -172,6 +180,7 @@ fn accepted(random: &mut Random, class: Option<Class>, wanted: impl Fn(&Shape) -
         Class::Drift => loop_draft(random, &shape, class, false),
         _ => {
             let mut draft = Draft::new(&shape);
+            draft.mark = random_mark(random);
             draft.kinds[0] = u32::from(class == Class::Plain);
             draft
         }
@@ -189,16 +198,18 @@ fn respelled_model(random: &mut Random) -> Vec<u8> {
     respelled(random, &model).expect("drafts are accepted")
 }
 
-/// Another spelling of an accepted model: the lengths of its numbers are drawn
-/// anew and, where a limit is the ceiling, the stay field 0 or M+1. None for a
-/// model that is refused.
+/// Another spelling of an accepted model, with its mark: the lengths of its
+/// numbers are drawn anew and, where a limit is what a blank stay field means,
+/// whether the field is 0 or spells it out. None for a model that is refused.
 pub fn respelled(random: &mut Random, model: &[u8]) -> Option<Vec<u8>> {
-    read_model(model).ok()?;
+    let reading = read_plan(model).ok()?;
     let mut numbers = numbers_of(model).ok()?;
-    for (at, (field, greatest)) in fields(&numbers).into_iter().enumerate() {
-        let for_ceiling = [0, greatest];
-        if matches!(field, Field::Stay { .. }) && for_ceiling.contains(&numbers[at]) {
-            numbers[at] = *random.pick(&for_ceiling);
+    for (at, (field, _)) in fields(&numbers).into_iter().enumerate() {
+        if let Field::Stay { location, clock } = field {
+            let limit = reading.model.locations[location].limit[clock];
+            if limit == reading.model.blank_limit(reading.mark, location, clock) {
+                numbers[at] = *random.pick(&[0, u32::from(limit) + 1]);
+            }
         }
     }
     Some(padded(random, &numbers))
@@ -344,7 +355,7 @@ fn noise(random: &mut Random) -> Vec<u8> {
         bytes.extend((0..length).map(|_| random.below(256) as u8));
     } else {
         let header = [
-            1,
+            random_mark(random) as usize,
             random.range(1, MAX_CLOCKS),
             random.range(1, MAX_CEILING.into()),
             random.range(1, 3),
@@ -358,64 +369,87 @@ fn noise(random: &mut Random) -> Vec<u8> {
     bytes
 }
 
-/// Shares of kinds, classes, refusals and sizes among `count` models, whose
-/// seeds are 0, 1, 2, ... and whose kinds take turns.
+/// What is counted of accepted models, in the order of the lines.
+#[derive(Clone, Copy, PartialEq, Eq, PartialOrd, Ord)]
+enum Trait {
+    Class(Class),
+    Mark(u32),
+    SafeByItsMark,
+    Clocks(usize),
+    /// Up to so many states.
+    States(usize),
+}
+
+impl Trait {
+    fn all_of(plan: &[u8], reading: &Reading) -> Vec<Trait> {
+        let states = states_of(&reading.model);
+        let sizes = [TINY, SMALL, MIDDLE, MAX_STATES];
+        let size = sizes.into_iter().find(|&size| states <= size);
+        let mut all = vec![
+            Trait::Class(classify(&reading.model)),
+            Trait::Mark(reading.mark),
+            Trait::Clocks(reading.model.clocks),
+            Trait::States(size.expect("no more than the most")),
+        ];
+        if reading.mark == EDGES_MARK && is_safe_by_its_mark(plan) {
+            all.push(Trait::SafeByItsMark);
+        }
+        all
+    }
+
+    fn words(self) -> String {
+        match self {
+            Trait::Class(class) => class.word().to_string(),
+            Trait::Mark(mark) => format!("mark {mark}"),
+            Trait::SafeByItsMark => "mark 2, safe where mark 1 is unsafe".to_string(),
+            Trait::Clocks(clocks) => format!("clocks {clocks}"),
+            Trait::States(size) => format!("states up to {size}"),
+        }
+    }
+}
+
+/// Shares of kinds, refusals, classes, marks and sizes among `count` models,
+/// whose seeds are 0, 1, 2, ... and whose kinds take turns.
 pub fn shares(count: usize) -> String {
     let mut kinds: BTreeMap<&str, usize> = BTreeMap::new();
     let mut refusals: BTreeMap<Refusal, usize> = BTreeMap::new();
-    let mut classes: BTreeMap<Class, usize> = BTreeMap::new();
-    let mut clocks: BTreeMap<usize, usize> = BTreeMap::new();
-    let mut sizes: BTreeMap<usize, usize> = BTreeMap::new();
-    let mut too_large = 0;
+    let mut traits: BTreeMap<Trait, usize> = BTreeMap::new();
+    let mut accepted = 0;
     for seed in 0..count {
         let kind = KINDS[seed % KINDS.len()];
         *kinds.entry(kind).or_default() += 1;
-        match read_model(&generate(seed as u64, kind).expect("a known kind")) {
-            Ok(model) => {
-                *classes.entry(classify(&model)).or_default() += 1;
-                *clocks.entry(model.clocks).or_default() += 1;
-                let states = states_of(&model);
-                let size = [TINY, SMALL, MIDDLE]
-                    .into_iter()
-                    .find(|&size| states <= size);
-                *sizes.entry(size.unwrap_or(MAX_STATES)).or_default() += 1;
-                too_large += usize::from(states > MIDDLE);
+        let plan = generate(seed as u64, kind).expect("a known kind");
+        match read_plan(&plan) {
+            Ok(reading) => {
+                accepted += 1;
+                for found in Trait::all_of(&plan, &reading) {
+                    *traits.entry(found).or_default() += 1;
+                }
             }
             Err(refusal) => *refusals.entry(refusal).or_default() += 1,
         }
     }
-    let accepted: usize = classes.values().sum();
-    let share = |part: usize, whole: usize| {
-        format!("{part} {:.1}%", 100.0 * part as f64 / whole.max(1) as f64)
-    };
     let mut lines = format!("models {count}\n");
     for kind in KINDS {
-        lines += &format!(
-            "kind {kind} {}\n",
-            share(kinds.get(kind).copied().unwrap_or(0), count)
-        );
+        lines += &share_line(&format!("kind {kind}"), kinds.get(kind), count);
     }
     for (refusal, number) in &refusals {
-        lines += &format!("refused {refusal} {}\n", share(*number, count));
+        lines += &share_line(&format!("refused {refusal}"), Some(number), count);
     }
-    lines += &format!(
-        "refused 8 at scratch {MIDDLE} {}\n",
-        share(too_large, count)
-    );
-    lines += &format!("accepted {}\n", share(accepted, count));
-    for (class, number) in &classes {
-        lines += &format!("accepted {} {}\n", class.word(), share(*number, accepted));
-    }
-    for (clocks, number) in &clocks {
-        lines += &format!("accepted clocks {clocks} {}\n", share(*number, accepted));
-    }
-    for (size, number) in &sizes {
-        lines += &format!(
-            "accepted states up to {size} {}\n",
-            share(*number, accepted)
-        );
+    let too_large = traits.get(&Trait::States(MAX_STATES));
+    lines += &share_line(&format!("refused 8 at scratch {MIDDLE}"), too_large, count);
+    lines += &share_line("accepted", Some(&accepted), count);
+    for (found, number) in &traits {
+        let words = format!("accepted {}", found.words());
+        lines += &share_line(&words, Some(number), accepted);
     }
     lines
+}
+
+fn share_line(words: &str, part: Option<&usize>, whole: usize) -> String {
+    let part = part.copied().unwrap_or(0);
+    let percent = 100.0 * part as f64 / whole.max(1) as f64;
+    format!("{words} {part} {percent:.1}%\n")
 }
 
 impl Class {

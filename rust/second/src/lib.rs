@@ -4,16 +4,19 @@
 //! The modules follow the order of document 01: numbers, models, regions,
 //! steps, the marked set, evidence, calls. `limits` has the limits of all of
 //! them. `shortest_plan` is request (a) of document 02; request (b), that no
-//! evidence is padded, is in `numbers` and `check`. Beyond both, `margin` and
-//! `harm` tell how slight a drift is harmless and how soon another does harm.
+//! evidence is padded, is in `numbers` and `check`; request (c), what a blank
+//! stay field means in mark 2, is in `model` and `shortest_plan`. Beyond both
+//! documents, `margin` and `harm` tell how slight a drift is harmless and how
+//! soon another does harm.
 //! `brute` does everything again by naive definitions, `widened` searches runs
-//! without regions; `generate`, `mutate`, `padding` and `other` make inputs for
-//! comparisons, `cases` those of a proved program with their answers.
+//! without regions; `generate`, `blanks`, `mutate`, `padding` and `other` make
+//! inputs for comparisons, `cases` those of a proved program with their answers.
 
 // Loops over clocks and states index several lists at once.
 #![allow(clippy::needless_range_loop)]
 
 pub mod bench;
+pub mod blanks;
 pub mod brute;
 pub mod calls;
 pub mod cases;
@@ -42,6 +45,6 @@ pub mod widened;
 
 pub use calls::{check_evidence, judge, marks, write_evidence, write_plan, Judgement};
 pub use calls::{harm, sheet_margin, Harm, SheetMargin};
-pub use model::{read_model, Edge, Location, Model};
+pub use model::{read_model, read_plan, Edge, Location, Model, Reading};
 pub use numbers::{number_at, spelled_at, Spelled};
 pub use refusal::Refusal;

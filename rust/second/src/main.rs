@@ -24,7 +24,7 @@ second check MODEL EVIDENCE [SCRATCH]    passes 1, passes 2, or the refusal line
 second shortest FILE|- [--output N]      the model's shortest bytes, or the refusal line
 second generate SEED KIND                a model's bytes
 second generate --kinds                  the kinds
-second generate --shares [COUNT]         shares of kinds, classes and refusals
+second generate --shares [COUNT]         shares of kinds, refusals, classes and marks
 second mutate SEED MODEL EVIDENCE [KIND] changed evidence
 second mutate --kinds                    the kinds of change
 second cases                             cases of operations and evidence

@@ -1,13 +1,17 @@
-//! Models: reading the bytes (refusals 1 to 6) and the test that each closed
-//! walk of edges resets each clock (refusal 7).
+//! Models: reading the bytes (refusals 1 to 6), the limits that blank stay
+//! fields mean (mark 2 is request (c) of document 02), and the test that each
+//! closed walk of edges resets each clock (refusal 7).
 
 use crate::limits::{MAX_CEILING, MAX_CLOCKS, MAX_EDGES, MAX_LOCATIONS};
 use crate::numbers::Reader;
 use crate::refusal::*;
 use std::ops::RangeInclusive;
 
-/// The mark of a model, its first number.
-pub const MARK: u32 = 1;
+/// The mark of a plan, its first number, tells what a stay field of 0 means:
+/// with this one the ceiling.
+pub const CEILING_MARK: u32 = 1;
+/// With this one the greatest high of the edges that leave the location.
+pub const EDGES_MARK: u32 = 2;
 
 #[derive(Clone, Debug, PartialEq, Eq)]
 pub struct Location {
@@ -34,6 +38,14 @@ pub struct Model {
     pub start: usize,
     pub locations: Vec<Location>,
     pub edges: Vec<Edge>,
+}
+
+/// What a plan says: the model, and beside it the mark with which its stay
+/// fields were read.
+#[derive(Clone, Debug, PartialEq, Eq)]
+pub struct Reading {
+    pub mark: u32,
+    pub model: Model,
 }
 
 /// What a number of a model stands for; clocks, locations and edges are
@@ -73,8 +85,13 @@ pub type Next<'a, E> = &'a mut dyn FnMut(Field, RangeInclusive<u32>) -> Result<u
 
 /// Reads a whole model; refusals 1 to 7 in the order of document 01.
 pub fn read_model(bytes: &[u8]) -> Result<Model, Refusal> {
+    read_plan(bytes).map(|reading| reading.model)
+}
+
+/// The same, with the mark.
+pub fn read_plan(bytes: &[u8]) -> Result<Reading, Refusal> {
     let mut reader = Reader::new(bytes);
-    let model = Model::from_fields(&mut |field, range| {
+    let reading = Reading::from_fields(&mut |field, range| {
         let number = reader.number()?;
         if range.contains(&number) {
             Ok(number)
@@ -85,17 +102,17 @@ pub fn read_model(bytes: &[u8]) -> Result<Model, Refusal> {
     if !reader.at_end() {
         return Err(BYTES_REMAIN);
     }
-    if model.leaves_a_clock_unreset() {
+    if reading.model.leaves_a_clock_unreset() {
         return Err(CLOCK_UNRESET);
     }
-    Ok(model)
+    Ok(reading)
 }
 
-impl Model {
-    /// The model of numbers that are asked for one by one, in the order of the
+impl Reading {
+    /// The reading of numbers that are asked for one by one, in the order of the
     /// bytes: whoever gives them sees what each one stands for.
-    pub fn from_fields<E>(next: Next<E>) -> Result<Model, E> {
-        next(Field::Mark, MARK..=MARK)?;
+    pub fn from_fields<E>(next: Next<E>) -> Result<Reading, E> {
+        let mark = next(Field::Mark, CEILING_MARK..=EDGES_MARK)?;
         let clocks = next(Field::Clocks, 1..=MAX_CLOCKS as u32)?;
         let ceiling = next(Field::Ceiling, 1..=MAX_CEILING.into())?;
         let locations = next(Field::Locations, 1..=MAX_LOCATIONS as u32)?;
@@ -108,27 +125,53 @@ impl Model {
             locations: Vec::with_capacity(locations as usize),
             edges: Vec::with_capacity(edges as usize),
         };
+        let mut blanks = Vec::new();
         for _ in 0..locations {
-            model.push_location(next)?;
+            blanks.extend(model.push_location(next)?);
         }
         for _ in 0..edges {
             model.push_edge(next)?;
         }
-        Ok(model)
+        // Only now are all edges known.
+        for (location, clock) in blanks {
+            model.locations[location].limit[clock] = model.blank_limit(mark, location, clock);
+        }
+        Ok(Reading { mark, model })
+    }
+}
+
+impl Model {
+    /// The model alone of numbers that are asked for one by one.
+    pub fn from_fields<E>(next: Next<E>) -> Result<Model, E> {
+        Reading::from_fields(next).map(|reading| reading.model)
     }
 
-    fn push_location<E>(&mut self, next: Next<E>) -> Result<(), E> {
+    /// The limit that a stay field of 0 means in a plan of this mark.
+    pub fn blank_limit(&self, mark: u32, location: usize, clock: usize) -> u8 {
+        let leaving = self.edges.iter().filter(|edge| edge.from == location);
+        let last_to_close = leaving.map(|edge| edge.high[clock]).max();
+        match mark {
+            EDGES_MARK => last_to_close.unwrap_or(self.ceiling),
+            _ => self.ceiling,
+        }
+    }
+
+    /// Gives the blank stay fields, as location and clock. Their limits are
+    /// left at 0.
+    fn push_location<E>(&mut self, next: Next<E>) -> Result<Vec<(usize, usize)>, E> {
         let location = self.locations.len();
-        let ceiling = u32::from(self.ceiling);
+        let most = u32::from(self.ceiling) + 1;
         let forbidden = next(Field::Kind { location }, 0..=1)? == 1;
         let mut limit = [0; MAX_CLOCKS];
+        let mut blanks = Vec::new();
         for clock in 0..self.clocks {
-            // 0 stands for the ceiling, any other s for limit s-1.
-            let stay = next(Field::Stay { location, clock }, 0..=ceiling + 1)?;
-            limit[clock] = stay.checked_sub(1).unwrap_or(ceiling) as u8;
+            match next(Field::Stay { location, clock }, 0..=most)? {
+                0 => blanks.push((location, clock)),
+                stay => limit[clock] = (stay - 1) as u8,
+            }
         }
         self.locations.push(Location { forbidden, limit });
-        Ok(())
+        Ok(blanks)
     }
 
     fn push_edge<E>(&mut self, next: Next<E>) -> Result<(), E> {
@@ -194,6 +237,59 @@ mod tests {
         for (stay, limit) in [(0, 3), (1, 0), (2, 1), (4, 3)] {
             let model = read_model(&[1, 1, 3, 1, 0, 0, 0, stay]).unwrap();
             assert_eq!(model.locations[0].limit, [limit, 0, 0]);
+        }
+    }
+
+    /// One clock, ceiling 3: three locations with edges from the first to each,
+    /// closing at 0, 2 and 1, and one from the last to the first.
+    fn blank(mark: u8) -> Model {
+        let header = [mark, 1, 3, 3, 4, 0, 0, 0, 0, 0, 0, 0];
+        let edges = [
+            [0, 0, 1, 0, 0],
+            [0, 1, 0, 2, 2],
+            [0, 2, 0, 0, 1],
+            [2, 0, 1, 0, 0],
+        ];
+        read_model(&[&header, edges.concat().as_slice()].concat()).unwrap()
+    }
+
+    #[test]
+    fn the_limit_of_a_blank_stay_field() {
+        let limits =
+            |model: &Model| -> Vec<u8> { model.locations.iter().map(|at| at.limit[0]).collect() };
+        let [one, two] = [blank(1), blank(2)];
+        assert_eq!((limits(&one), limits(&two)), (vec![3; 3], vec![2, 3, 0]));
+        // Nothing else is different.
+        assert_eq!((&one.edges, one.start), (&two.edges, two.start));
+        for (location, limit) in [(0, 2), (1, 3), (2, 0)] {
+            assert_eq!(one.blank_limit(CEILING_MARK, location, 0), 3);
+            assert_eq!(one.blank_limit(EDGES_MARK, location, 0), limit);
+        }
+    }
+
+    #[test]
+    fn blank_clock_by_clock() {
+        // Two loops with highs 0, 2 and 1, 0 at ceiling 3; a field of M+1.
+        let plan = |stays: [u8; 2]| {
+            let [a, b] = stays;
+            let edges = [0, 0, 3, 0, 0, 1, 2, 0, 0, 3, 1, 1, 0, 0];
+            let bytes = [&[2, 2, 3, 1, 2, 0, 0, a, b], &edges[..]].concat();
+            read_plan(&bytes).unwrap().model.locations[0].limit
+        };
+        assert_eq!(plan([0, 0]), [1, 2, 0]);
+        assert_eq!(plan([4, 0]), [3, 2, 0]);
+        assert_eq!(plan([0, 4]), [1, 3, 0]);
+        assert_eq!(plan([1, 2]), [0, 1, 0]);
+    }
+
+    #[test]
+    fn marks() {
+        for (first, mark) in [(&[1][..], Ok(1)), (&[2], Ok(2)), (&[130, 128, 0], Ok(2))] {
+            let bytes = [first, &[1, 1, 1, 0, 0, 0, 0]].concat();
+            assert_eq!(read_plan(&bytes).map(|reading| reading.mark), mark);
+        }
+        for first in [&[0][..], &[3], &[131, 0], &[130, 1]] {
+            assert_eq!(read_plan(&[first, &[1, 1, 1]].concat()), Err(3));
         }
     }
 

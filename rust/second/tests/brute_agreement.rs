@@ -3,10 +3,12 @@
 mod common;
 
 use common::*;
+use second::blanks::with_mark;
+use second::brute::read::read_with_mark;
 use second::brute::regions::NaiveRegions;
 use second::brute::trails::{least_of_all, least_trail, least_walk};
 use second::brute::Brute;
-use second::generate::generate;
+use second::generate::{generate, KINDS};
 use second::graph::Graph;
 use second::limits::NUMBER_BYTES;
 use second::mutate::{mutate, mutate_as, roles, Role};
@@ -14,7 +16,7 @@ use second::numbers::{numbers_of, push_padded};
 use second::padding::{count, first_padded, pad_at};
 use second::random::Random;
 use second::regions::Regions;
-use second::{judge, marks, read_model};
+use second::{judge, marks, read_model, read_plan};
 use std::collections::BTreeMap;
 
 /// Holds everything about a model against the brute-force route; true if the
@@ -93,6 +95,69 @@ fn tiny_models() {
 #[test]
 fn small_models() {
     assert_eq!(compare_kind("small", 0..2_500, 12), 2_500);
+}
+
+/// Mark 2, with limits below those of mark 1.
+#[test]
+fn blank_models() {
+    assert_eq!(compare_kind("blank", 0..3_000, 12), 3_000);
+}
+
+/// The same plans with the other mark: its states, sets and evidence too.
+#[test]
+fn models_with_the_other_mark() {
+    for kind in ["tiny", "small", "blank"] {
+        for seed in 0..600 {
+            let model = generate(seed, kind).unwrap();
+            let mark = read_plan(&model).unwrap().mark;
+            let other = with_mark(&model, 3 - mark).unwrap();
+            assert!(compare(&other, seed, 4));
+        }
+    }
+}
+
+/// Mark, limits and all else that is read, or the refusal, of every kind; as it
+/// is, and with other marks.
+#[test]
+fn readings() {
+    let mut limits = BTreeMap::new();
+    for kind in KINDS {
+        for seed in 0..200 {
+            let model = generate(seed, kind).unwrap();
+            let others = (0..=3).filter_map(|mark| with_mark(&model, mark).ok());
+            for bytes in others.chain([model.clone()]) {
+                same_reading(&bytes, &mut limits);
+            }
+        }
+    }
+    // With mark 2 blanks below the ceiling, at it, and other limits.
+    println!("limits by mark, blank, at the ceiling: {limits:?}");
+    assert_eq!(limits.len(), 2 + 4);
+    assert!(limits.values().all(|&times| times >= 500), "{limits:?}");
+}
+
+/// Counts the limits by mark, whether they are the default, and whether they
+/// are the ceiling.
+fn same_reading(bytes: &[u8], limits: &mut BTreeMap<(u32, bool, bool), usize>) {
+    let (mark, plan) = match (read_with_mark(bytes), read_plan(bytes)) {
+        (Ok(read), Ok(reading)) => {
+            assert_eq!(read.0, reading.mark, "{bytes:?}");
+            read
+        }
+        (naive, plain) => return assert_eq!(naive.err(), plain.err(), "{bytes:?}"),
+    };
+    let model = read_model(bytes).unwrap();
+    assert_eq!((plan.clocks, plan.start), (model.clocks, model.start));
+    assert_eq!(plan.limits.len(), model.locations.len());
+    for (at, location) in model.locations.iter().enumerate() {
+        assert_eq!(plan.forbidden[at], location.forbidden);
+        for (clock, &limit) in plan.limits[at].iter().enumerate() {
+            assert_eq!(limit, location.limit[clock].into(), "{bytes:?}");
+            let is_default = limit == plan.default_limit(mark, at, clock);
+            let what = (mark, is_default, limit == plan.ceiling);
+            *limits.entry(what).or_default() += 1;
+        }
+    }
 }
 
 #[test]

@@ -4,7 +4,9 @@
 mod common;
 
 use common::{LOOP, LOOP_TRAIL};
+use second::blanks::with_mark;
 use second::brute::{spellings, Brute};
+use second::calls::states_of;
 use second::cases::rules::{broken_rules, Rule, RULES};
 use second::cases::{answers, cases};
 use second::graph::Graph;
@@ -231,6 +233,74 @@ fn the_brute_force_route_redraws_alike() {
         redrawn += 1;
     }
     assert!(redrawn >= 80);
+}
+
+/// The verdict, the marks and the evidence of all but the large plans, by the
+/// brute-force route.
+#[test]
+fn the_brute_force_route_judges_alike() {
+    let mut by_mark = [0; 3];
+    for (model, line, answer) in all_answered() {
+        let told = answer.split(", ").collect::<Vec<_>>();
+        let few = read_model(&model).is_ok_and(|model| states_of(&model) <= 160);
+        if !few || !told[0].starts_with("0 ") {
+            continue;
+        }
+        let brute = Brute::new(&model).unwrap();
+        let marked = brute.states.marked();
+        let listed = |bytes: &[u8]| bytes.iter().map(u8::to_string).collect::<Vec<_>>();
+        let (start, out) = match line.split(' ').next().unwrap() {
+            "judge" => (
+                format!("0 {} {}", u8::from(brute.is_unsafe()), marked.len()),
+                None,
+            ),
+            "marks" => {
+                let marks: Vec<u8> = marked.iter().map(|&mark| mark.into()).collect();
+                (format!("0 {}", marked.len()), Some(listed(&marks).concat()))
+            }
+            "write" => {
+                let bytes = brute.evidence();
+                let start = format!("0 {} {}", u8::from(brute.is_unsafe()), bytes.len());
+                (start, Some(listed(&bytes).join(",")))
+            }
+            _ => continue,
+        };
+        assert!(told[0].starts_with(&start), "{model:?} {line}: {answer}");
+        let begins = |out: String| told[2].starts_with(&format!("out {out}"));
+        assert!(out.is_none_or(begins), "{model:?} {line}: {answer}");
+        by_mark[usize::from(model[0] % 128)] += 1;
+    }
+    assert!(by_mark[1] >= 150 && by_mark[2] >= 75, "{by_mark:?}");
+}
+
+/// Each accepted plan of mark 2 is also there with mark 1. The mark changes
+/// verdicts, marks, evidence that passes and shortest forms.
+#[test]
+fn plans_of_both_marks() {
+    let all = all_answered();
+    let mut differs: BTreeSet<&str> = BTreeSet::new();
+    for (model, line, answer) in &all {
+        if model.first() != Some(&2) || !answer.starts_with("0 ") {
+            continue;
+        }
+        let twin = with_mark(model, 1).unwrap();
+        let mut of_twin = all.iter().filter(|(model, _, _)| *model == twin);
+        assert!(of_twin.clone().next().is_some(), "{model:?}");
+        let Some((_, _, other)) = of_twin.find(|(_, same, _)| same == line) else {
+            continue;
+        };
+        let word = line.split([' ', ',']).next().unwrap();
+        // The shortest forms differ in the mark at least.
+        let other = match word {
+            "plan" => other.replacen("out 1,", "out 2,", 1),
+            _ => other.clone(),
+        };
+        if other != *answer {
+            differs.insert(word);
+        }
+    }
+    let words = BTreeSet::from(["judge", "marks", "margin", "plan", "1"]);
+    assert!(words.is_subset(&differs), "{differs:?}");
 }
 
 /// The stored input of the proved program is these cases, its stored output

@@ -42,6 +42,12 @@ fn judge_and_evidence() {
         answer(&["judge", "-"], &ROW),
         b"verdict safe\nstates 3\nin 3\n"
     );
+    let mut blank = LOOP;
+    blank[0] = 2;
+    assert_eq!(
+        answer(&["judge", "-"], &blank),
+        b"verdict unsafe\nstates 132\nsteps 8\n"
+    );
     assert_eq!(answer(&["judge", "-"], &LOOP[..10]), b"refused 1\n");
     assert_eq!(answer(&["judge", "-", "131"], &LOOP), b"refused 8\n");
     assert_eq!(
@@ -95,10 +101,18 @@ fn shortest_plans() {
     ] {
         assert_eq!(answer(&["shortest", "-", "--output", output], input), line);
     }
+    // With mark 2, where the only edge closes at 0, blank means a limit of 0.
+    let loops = b"130,0; 1,2,1,1,0; 0,1; 0,0,1,0,0";
+    let short = [2, 1, 2, 1, 1, 0, 0, 0, 0, 0, 1, 0, 0];
+    assert_eq!(
+        answer(&["shortest", &file("loops.plan", loops)], &[]),
+        short
+    );
+    assert_eq!(answer(&["shortest", "-"], &[3; 13]), b"refused 3\n");
     // No scratch is needed, so none is too short.
     let many = second::generate::generate(0, "largest").unwrap();
     let short = answer(&["shortest", "-"], &many);
-    assert_eq!(second::read_model(&short), second::read_model(&many));
+    assert_eq!(second::read_plan(&short), second::read_plan(&many));
 }
 
 #[test]

@@ -101,7 +101,12 @@ fn models(kind: &str, seeds: u64, most: usize) -> Vec<Vec<u8>> {
 
 #[test]
 fn both_routes_on_small_models() {
-    for (kind, seeds) in [("tiny", 2_500), ("small", 2_500), ("noise", 1_500)] {
+    for (kind, seeds) in [
+        ("tiny", 2_500),
+        ("small", 2_500),
+        ("blank", 1_000),
+        ("noise", 1_500),
+    ] {
         models(kind, seeds, 160)
             .iter()
             .for_each(|model| compare(model));
@@ -121,7 +126,7 @@ fn both_routes_on_some_middle_models() {
 fn margins_differ() {
     let mut by_visits = [0; 4];
     let mut below = 0;
-    for model in models("small", 600, 160) {
+    for model in models("small", 2_500, 160) {
         let Some(margin) = margin_of(&model) else {
             continue;
         };

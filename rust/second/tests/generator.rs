@@ -3,6 +3,7 @@
 mod common;
 
 use common::*;
+use second::blanks::{by_both_marks, is_safe_by_its_mark};
 use second::calls::states_of;
 use second::components::Components;
 use second::generate::{classify, generate, respelled, shares};
@@ -14,8 +15,8 @@ use second::mutate::{self, mutate, mutate_as};
 use second::numbers::numbers_of;
 use second::random::Random;
 use second::refusal::LAST;
-use second::{judge, read_model};
-use std::collections::BTreeSet;
+use second::{judge, read_model, read_plan};
+use std::collections::{BTreeMap, BTreeSet};
 
 fn model(seed: u64, kind: &str) -> second::Model {
     read_model(&generate(seed, kind).unwrap()).unwrap()
@@ -64,6 +65,95 @@ fn sizes_and_clocks() {
     }
 }
 
+/// Each kind of accepted models has both marks in each of its classes, about as
+/// often; models of mark 2 have limits of their own often enough.
+#[test]
+fn marks() {
+    for kind in KINDS.into_iter().filter(|kind| *kind != "blank") {
+        let mut seen: BTreeMap<(Class, u32), usize> = BTreeMap::new();
+        let mut blank = 0;
+        for seed in 0..300 {
+            let bytes = generate(seed, kind).unwrap();
+            let Ok(reading) = read_plan(&bytes) else {
+                continue;
+            };
+            let class = classify(&reading.model);
+            *seen.entry((class, reading.mark)).or_default() += 1;
+            let [one, two] = by_both_marks(&bytes);
+            blank += usize::from(reading.mark == 2 && one != two);
+        }
+        if seen.values().sum::<usize>() < 300 {
+            continue; // refused, or noise
+        }
+        for &(class, mark) in seen.keys() {
+            let (these, others) = (seen[&(class, mark)], seen[&(class, 3 - mark)]);
+            assert!(3 * these >= others, "{kind} {seen:?}");
+        }
+        assert!(blank >= 15, "{kind} {blank}");
+    }
+}
+
+/// Of mark 2, with limits below those of mark 1, and small. More than half
+/// are safe by their mark; the others are of all classes.
+#[test]
+fn blank_models() {
+    let mut by_mark = 0;
+    let mut classes: BTreeMap<Class, usize> = BTreeMap::new();
+    let mut forms = BTreeSet::new();
+    for seed in 0..400 {
+        let bytes = generate(seed, "blank").unwrap();
+        let reading = read_plan(&bytes).unwrap();
+        let [one, two] = by_both_marks(&bytes);
+        assert_eq!((reading.mark, &reading.model), (2, &two));
+        assert!(one != two && states_of(&two) <= SMALL);
+        forms.extend(forms_of_stays(&bytes));
+        if is_safe_by_its_mark(&bytes) {
+            by_mark += 1;
+        } else {
+            *classes.entry(classify(&two)).or_default() += 1;
+        }
+    }
+    println!("safe by its mark {by_mark}, else {classes:?}");
+    assert!(by_mark >= 200 && classes.values().all(|&times| times >= 10));
+    assert_eq!(classes.len(), 3);
+    // 0, M+1 and others, where no edge leaves and where the default is at the
+    // ceiling or below it; others also spell out a default below it.
+    assert_eq!(forms.len(), 3 + 3 + 4);
+}
+
+/// Of each stay field: whether it is 0, M+1 or another; whether edges leave and
+/// the default is the ceiling; whether the limit is the default.
+fn forms_of_stays(bytes: &[u8]) -> BTreeSet<(u32, bool, bool, bool)> {
+    let (numbers, model) = (numbers_of(bytes).unwrap(), read_model(bytes).unwrap());
+    let most = u32::from(model.ceiling) + 1;
+    let mut forms = BTreeSet::new();
+    for (at, location) in model.locations.iter().enumerate() {
+        let leaves = model.edges.iter().any(|edge| edge.from == at);
+        for clock in 0..model.clocks {
+            let field = numbers[6 + at * (1 + model.clocks) + 1 + clock];
+            let form = if field == most { 2 } else { field.min(1) };
+            let default = model.blank_limit(2, at, clock);
+            let is_default = location.limit[clock] == default;
+            forms.insert((form, leaves, default == model.ceiling, is_default));
+        }
+    }
+    forms
+}
+
+/// All header numbers come up, and marks above 2 as well as 0.
+#[test]
+fn refused_marks() {
+    let marks: BTreeSet<u32> = (0..600)
+        .map(|seed| mark_of(&generate(seed, "refused-3").unwrap()))
+        .collect();
+    assert!([0, 1, 2, 3].iter().all(|mark| marks.contains(mark)));
+    assert!(marks.len() >= 10, "{marks:?}");
+}
+
+fn mark_of(bytes: &[u8]) -> u32 {
+    second::number_at(bytes, 0).unwrap().0
+}
+
 /// Every number of a model is below 128, so that one of more bytes is padded.
 fn is_padded(bytes: &[u8]) -> bool {
     bytes.len() > numbers_of(bytes).unwrap().len()
@@ -88,7 +178,7 @@ fn respelled_models_stay_the_same() {
         let bytes = generate(seed, "small").unwrap();
         let other = respelled(random, &bytes).unwrap();
         assert!(is_padded(&other) && !is_padded(&bytes));
-        assert_eq!(read_model(&other), read_model(&bytes));
+        assert_eq!(read_plan(&other), read_plan(&bytes));
         with_stay += usize::from(has_stay_above_ceiling(&other));
         assert_eq!(respelled(random, &bytes[1..]), None);
     }
@@ -132,6 +222,9 @@ fn a_fifth_of_the_accepted_models_needs_a_touch() {
     assert!(number("accepted unsafe only by drift ") >= 0.2 * number("accepted "));
     assert!(number("accepted safe ") >= 0.2 * number("accepted "));
     assert!(number("accepted unsafe with perfect clocks ") >= 0.2 * number("accepted "));
+    assert!(number("accepted mark 1 ") >= 0.4 * number("accepted "));
+    assert!(number("accepted mark 2 ") >= 0.4 * number("accepted "));
+    assert!(number("accepted mark 2, safe where mark 1 is unsafe ") > 0.0);
     for refusal in 1..=8 {
         assert!(number(&format!("refused {refusal} ").replace("8 ", "8 at scratch 4000 ")) > 0.0);
     }

@@ -3,13 +3,24 @@
 mod common;
 
 use common::*;
+use second::generate::{generate, KINDS};
 use second::numbers::shortest;
 use second::padding::{count, pad_at};
-use second::{check_evidence, judge, marks, read_model, write_evidence};
+use second::{check_evidence, judge, marks, read_model, read_plan, write_evidence};
+use std::collections::BTreeSet;
 
-/// The loop plan with one number changed and, if asked for, cut after it.
-fn changed(at: usize, number: u32, cut: bool) -> Vec<u8> {
-    let mut numbers: Vec<u32> = LOOP.iter().map(|&byte| byte.into()).collect();
+/// The loop plan with each mark.
+fn both_marks() -> [[u8; 46]; 2] {
+    [1, 2].map(|mark| {
+        let mut plan = LOOP;
+        plan[0] = mark;
+        plan
+    })
+}
+
+/// A plan with one number changed and, if asked for, cut after it.
+fn changed(plan: &[u8], at: usize, number: u32, cut: bool) -> Vec<u8> {
+    let mut numbers: Vec<u32> = plan.iter().map(|&byte| byte.into()).collect();
     numbers[at] = number;
     if cut {
         numbers.truncate(at + 1);
@@ -19,53 +30,129 @@ fn changed(at: usize, number: u32, cut: bool) -> Vec<u8> {
 
 #[test]
 fn model_ends_too_soon() {
-    for length in 0..LOOP.len() {
-        assert_eq!(read_model(&LOOP[..length]), Err(1));
-        assert_eq!(read_model(&[&LOOP[..length], &[128]].concat()), Err(1));
-        assert_eq!(read_model(&[&LOOP[..length], &[128, 255]].concat()), Err(1));
+    for plan in both_marks() {
+        for length in 0..plan.len() {
+            let begun = &plan[..length];
+            assert_eq!(read_model(begun), Err(1));
+            assert_eq!(read_model(&[begun, &[128]].concat()), Err(1));
+            assert_eq!(read_model(&[begun, &[128, 255]].concat()), Err(1));
+        }
     }
 }
 
 #[test]
 fn model_number_too_long() {
-    for at in 0..LOOP.len() {
-        // Whatever value the number might have had, and whatever follows.
-        assert_eq!(
-            read_model(&[&LOOP[..at], &[255, 255, 255]].concat()),
-            Err(2)
-        );
-        assert_eq!(
-            read_model(&[&LOOP[..at], &[LOOP[at] | 128, 128, 128, 0], &LOOP[at + 1..]].concat()),
-            Err(2)
-        );
+    for plan in both_marks() {
+        for at in 0..plan.len() {
+            // Whatever value the number might have had, and whatever follows.
+            let (begun, rest) = (&plan[..at], &plan[at + 1..]);
+            assert_eq!(read_model(&[begun, &[255, 255, 255]].concat()), Err(2));
+            let long = [plan[at] | 128, 128, 128, 0];
+            assert_eq!(read_model(&[begun, &long, rest].concat()), Err(2));
+        }
     }
 }
 
 #[test]
 fn model_numbers_out_of_range() {
     // Clocks 2, ceiling 2, locations 4.
-    let header = [1, 3, 4, 8, 24, 3];
+    let header = [2, 3, 4, 8, 24, 3];
     let location = [1, 3, 3];
     let edge = [3, 3, 3, 2, 2, 2, 2];
-    for at in 0..LOOP.len() {
-        let (most, refusal) = match at {
-            0..=5 => (header[at], 3),
-            6..=17 => (location[(at - 6) % 3], 4),
-            _ => (edge[(at - 18) % 7], 5),
-        };
-        for number in [most + 1, 127, 128, 16_384, (1 << 21) - 1] {
-            // The refusal comes with the number, so what follows is no matter.
-            assert_eq!(
-                read_model(&changed(at, number, false)),
-                Err(refusal),
-                "{at}"
-            );
-            assert_eq!(read_model(&changed(at, number, true)), Err(refusal), "{at}");
+    for plan in both_marks() {
+        for at in 0..plan.len() {
+            let (most, refusal) = match at {
+                0..=5 => (header[at], 3),
+                6..=17 => (location[(at - 6) % 3], 4),
+                _ => (edge[(at - 18) % 7], 5),
+            };
+            for number in [most + 1, 127, 128, 16_384, (1 << 21) - 1] {
+                // The refusal comes with the number, so what follows is no matter.
+                for cut in [false, true] {
+                    let other = changed(&plan, at, number, cut);
+                    assert_eq!(read_model(&other), Err(refusal), "{at}");
+                }
+            }
+        }
+        for at in 0..4 {
+            assert_eq!(read_model(&changed(&plan, at, 0, false)), Err(3));
         }
     }
-    for at in 0..4 {
-        assert_eq!(read_model(&changed(at, 0, false)), Err(3));
+}
+
+/// The mark by its bytes, alone and with the rest of a plan behind it.
+#[test]
+fn the_mark() {
+    for (first, mark) in [
+        (&[1][..], Ok(1)),
+        (&[129, 0], Ok(1)),
+        (&[2], Ok(2)),
+        (&[130, 0], Ok(2)),
+        (&[130, 128, 0], Ok(2)),
+        (&[0], Err(3)),
+        (&[128, 0], Err(3)),
+        (&[3], Err(3)),
+        (&[131, 0], Err(3)),
+        (&[130, 1], Err(3)),
+        (&[130, 128, 1], Err(3)),
+        (&[127], Err(3)),
+        (&[130, 128, 128], Err(2)),
+    ] {
+        let plan = [first, &ROW[1..]].concat();
+        assert_eq!(read_plan(&plan).map(|reading| reading.mark), mark);
+        assert_eq!(judge(&plan, ENOUGH).err(), mark.err());
+        assert_eq!(read_plan(first), Err(mark.err().unwrap_or(1)));
     }
+    assert_eq!(read_plan(&[130]), Err(1));
+    assert_eq!(read_plan(&[130, 128]), Err(1));
+}
+
+/// A stay field of 0 refuses nothing, whatever its limit turns out to be, and
+/// what follows it is refused as with mark 1.
+#[test]
+fn the_mark_changes_no_refusal() {
+    let mut seen = BTreeSet::new();
+    for kind in KINDS {
+        for seed in 0..150 {
+            let model = generate(seed, kind).unwrap();
+            if !matches!(model[..], [1 | 2, ..]) {
+                continue;
+            }
+            let refusal = |mark: u8| {
+                let other = [&[mark], &model[1..]].concat();
+                judge(&other, [4_000; 4]).err()
+            };
+            assert_eq!(refusal(1), refusal(2), "{model:?}");
+            seen.insert(refusal(2));
+        }
+    }
+    let all = [1, 2, 3, 4, 5, 6, 7, 8].map(Some);
+    assert_eq!(
+        seen,
+        BTreeSet::from(all).into_iter().chain([None]).collect()
+    );
+}
+
+#[test]
+fn stay_fields_of_mark_2() {
+    // Ceiling 2; a loop that closes at 0 comes behind the field.
+    let with = |stay: &[u8], rest: &[u8]| {
+        let header = [2, 1, 2, 1, 1, 0, 0];
+        read_model(&[&header, stay, rest].concat()).map(|model| model.locations[0].limit[0])
+    };
+    let edge = [0, 0, 1, 0, 0];
+    for (stay, limit) in [(0, 0), (1, 0), (2, 1), (3, 2)] {
+        assert_eq!(with(&[stay], &edge), Ok(limit));
+        assert_eq!(with(&[stay + 128, 128, 0], &edge), Ok(limit));
+    }
+    assert_eq!(with(&[4], &edge), Err(4));
+    assert_eq!(with(&[4], &[]), Err(4));
+    assert_eq!(with(&[0], &edge[..4]), Err(1));
+    assert_eq!(with(&[0], &[0, 0, 1, 0, 3]), Err(5));
+    assert_eq!(with(&[0], &[0, 0, 1, 1, 0]), Err(5));
+    assert_eq!(with(&[0], &[0, 0, 1, 0, 0, 0]), Err(6));
+    // No time can pass, yet the drawing has a loop without a reset.
+    assert_eq!(with(&[0], &[0, 0, 0, 0, 0]), Err(7));
 }
 
 #[test]

@@ -1,16 +1,17 @@
-//! The shortest form of a plan: what 02 promises of it, on generated models and
-//! by the brute-force route.
+//! The shortest form of a plan: what 02 promises of it, on generated models of
+//! both marks and by the brute-force route.
 
 mod common;
 
 use common::*;
-use second::brute::read::{read, Plan};
+use second::brute::read::{read_with_mark, Plan};
 use second::brute::spellings;
 use second::generate::{generate, respelled, KINDS};
 use second::limits::{MAX_CEILING, MAX_CLOCKS, MAX_EDGES, MAX_LOCATIONS};
 use second::program::{bytes_of_text, SCRATCH};
 use second::random::Random;
-use second::{judge, marks, read_model, write_evidence, write_plan, Model};
+use second::shortest_plan::shortest_plan;
+use second::{judge, marks, read_plan, write_evidence, write_plan, Reading};
 use std::collections::{BTreeMap, BTreeSet};
 
 /// What the output holds before a call.
@@ -36,10 +37,10 @@ fn for_models(seeds: u64, mut test: impl FnMut(u64, &[u8])) {
 }
 
 /// The accepted ones of them.
-fn for_accepted(seeds: u64, mut test: impl FnMut(u64, &[u8], Model)) {
+fn for_accepted(seeds: u64, mut test: impl FnMut(u64, &[u8], Reading)) {
     for_models(seeds, |seed, bytes| {
-        if let Ok(model) = read_model(bytes) {
-            test(seed, bytes, model);
+        if let Ok(reading) = read_plan(bytes) {
+            test(seed, bytes, reading);
         }
     });
 }
@@ -57,6 +58,15 @@ fn by_hand() {
     let stays = [1, 1, 2, 4, 0, 0, 0, 0, 1, 1, 0, 2, 0, 3];
     let short = [1, 1, 2, 4, 0, 0, 0, 0, 1, 1, 0, 2, 0, 0];
     assert_eq!(shortest(&stays), short);
+    // Ceiling 2; an edge that closes at 1 leaves each location but the last.
+    let stays = |mark, fields: [u8; 4]| {
+        let [a, b, c, d] = fields;
+        let edges = [0, 3, 0, 0, 1, 1, 3, 0, 0, 1, 2, 3, 0, 1, 1];
+        [&[mark, 1, 2, 4, 3, 0, 0, a, 1, b, 0, c, 0, d], &edges[..]].concat()
+    };
+    assert_eq!(shortest(&stays(2, [2, 3, 1, 3])), stays(2, [0, 3, 1, 0]));
+    assert_eq!(shortest(&stays(2, [0, 2, 0, 2])), stays(2, [0, 0, 0, 2]));
+    assert_eq!(shortest(&stays(1, [2, 3, 1, 3])), stays(1, [2, 0, 1, 0]));
     // Edges that nothing can take, or that are there twice, stay.
     let shut = [1, 1, 2, 2, 2, 0, 0, 1, 0, 0, 0, 1, 0, 2, 2, 0, 1, 0, 2, 2];
     assert_eq!(shortest(&shut), shut);
@@ -72,61 +82,112 @@ fn the_longest() {
 
 #[test]
 fn reading_it_gives_the_model_of_the_input() {
-    for_accepted(40, |_, bytes, model| {
+    let mut marks = BTreeMap::new();
+    for_accepted(40, |_, bytes, reading| {
         let short = shortest(bytes);
         // Every number is below 128: one byte each.
-        assert_eq!(short.len(), count_of_numbers(&model), "{bytes:?}");
+        assert_eq!(short.len(), count_of_numbers(&reading.model), "{bytes:?}");
         assert!(short.len() <= bytes.len());
-        assert_eq!(read(&short), read(bytes));
-        assert_eq!(read_model(&short), Ok(model));
+        assert_eq!(u32::from(short[0]), reading.mark);
+        assert_eq!(read_with_mark(&short), read_with_mark(bytes));
         assert_eq!(shortest(&short), short);
-        assert!(!has_stay_above_ceiling(&short));
+        assert_stay_fields(&short);
+        *marks.entry(reading.mark).or_insert(0) += 1;
+        assert_eq!(read_plan(&short), Ok(reading));
     });
+    assert!(marks[&1] >= 200 && marks[&2] >= 200, "{marks:?}");
 }
 
-/// Equal content gives equal bytes, other content other bytes.
+/// Of a plan in shortest form: a stay field is 0 exactly where the default is
+/// the limit, which is read and looked up by the brute-force route.
+fn assert_stay_fields(short: &[u8]) {
+    let (mark, plan) = read_with_mark(short).expect("an accepted plan");
+    let locations = short[6..].chunks(1 + plan.clocks);
+    for (at, (fields, limits)) in locations.zip(&plan.limits).enumerate() {
+        for (clock, (&field, &limit)) in fields[1..].iter().zip(limits).enumerate() {
+            let is_default = limit == plan.default_limit(mark, at, clock);
+            let expected = if is_default { 0 } else { limit + 1 };
+            assert_eq!(u32::from(field), expected, "{short:?}");
+        }
+    }
+    assert!(mark == 2 || !has_stay_above_ceiling(short));
+}
+
+/// Equal content gives equal bytes, other content, another mark too, other
+/// bytes.
 #[test]
 fn one_form_for_one_model() {
-    let mut models: BTreeMap<Vec<u8>, Model> = BTreeMap::new();
-    for_accepted(40, |seed, bytes, model| {
+    let mut models: BTreeMap<Vec<u8>, Reading> = BTreeMap::new();
+    for_accepted(40, |seed, bytes, reading| {
         let short = shortest(bytes);
         let mut random = Random::new(seed);
         for _ in 0..4 {
             let other = respelled(&mut random, bytes).expect("an accepted model");
-            assert_eq!(read_model(&other).as_ref(), Ok(&model));
+            assert_eq!(read_plan(&other).as_ref(), Ok(&reading));
             assert_eq!(shortest(&other), short, "{other:?}");
         }
-        let known = models.entry(short).or_insert_with(|| model.clone());
-        assert_eq!(*known, model);
+        let known = models.entry(short).or_insert_with(|| reading.clone());
+        assert_eq!(*known, reading);
     });
     let different: BTreeSet<String> = models.values().map(|model| format!("{model:?}")).collect();
     assert_eq!(different.len(), models.len());
 }
 
-/// Each number one higher or lower: what is still accepted is another plan and
-/// has other bytes, but where 0 and M+1 mean the same limit.
+/// Each number one higher or lower, or a stay field with every limit: what is
+/// still accepted is another plan and has other bytes, but where a blank means
+/// the same limit.
 #[test]
 fn a_number_changed() {
-    let (mut same, mut other) = (0, 0);
-    for_accepted(8, |_, bytes, model| {
+    let (mut same, mut other) = (BTreeMap::from([(1, 0), (2, 0)]), 0);
+    for_accepted(8, |_, bytes, reading| {
         let short = shortest(bytes);
+        let stays = 1..=reading.model.ceiling + 1;
         for at in 0..short.len() {
-            for number in [
-                short[at] + 1,
-                short[at].wrapping_sub(1) & 127,
-                model.ceiling + 1,
-            ] {
+            for number in [short[at] + 1, short[at].wrapping_sub(1) & 127]
+                .into_iter()
+                .chain(stays.clone())
+                .filter(|&number| number != short[at])
+            {
                 let mut changed = short.clone();
                 changed[at] = number;
-                let Ok(read) = read_model(&changed) else {
+                let Ok(read) = read_plan(&changed) else {
                     continue;
                 };
-                assert_eq!(shortest(&changed) == short, read == model);
-                *if read == model { &mut same } else { &mut other } += 1;
+                assert_eq!(shortest(&changed) == short, read == reading);
+                let same = same.get_mut(&reading.mark).expect("a mark");
+                *if read == reading { same } else { &mut other } += 1;
             }
         }
     });
-    assert!(same >= 500 && other >= 5_000, "{same} {other}");
+    let often = same.values().all(|&times| times >= 400);
+    assert!(often && other >= 5_000, "{same:?} {other}");
+}
+
+/// Plans with one content and two marks: nothing is promised but that each
+/// keeps its own, and where edges close early a limit has two forms.
+#[test]
+fn plans_of_two_marks() {
+    let both = |stay| [1, 2].map(|mark| shortest(&[mark, 1, 2, 1, 1, 0, 0, stay, 0, 0, 1, 0, 1]));
+    let stays = |stay| both(stay).map(|short| (short[0], short[7]));
+    assert_eq!(stays(0), [(1, 0), (2, 0)]);
+    assert_eq!(stays(1), [(1, 1), (2, 1)]);
+    assert_eq!(stays(2), [(1, 2), (2, 0)]);
+    assert_eq!(stays(3), [(1, 0), (2, 3)]);
+    let mut forms = BTreeSet::new();
+    for_accepted(20, |_, bytes, reading| {
+        for mark in [1, 2] {
+            let model = reading.model.clone();
+            let short = shortest_plan(&Reading { mark, model });
+            assert_eq!(u32::from(short[0]), mark);
+            assert_eq!(
+                read_plan(&short).map(|read| read.model),
+                Ok(reading.model.clone())
+            );
+            assert_eq!(short.len(), shortest(bytes).len());
+            forms.insert(short[1..] == shortest(bytes)[1..]);
+        }
+    });
+    assert_eq!(forms.len(), 2);
 }
 
 /// Verdict, marks and evidence of the shortest form are those of the plan.
@@ -149,8 +210,8 @@ fn judged_alike() {
 /// Output of no byte, one too few, just enough, and some to spare.
 #[test]
 fn outputs() {
-    for_accepted(30, |_, bytes, model| {
-        let (short, needed) = (shortest(bytes), count_of_numbers(&model));
+    for_accepted(30, |_, bytes, reading| {
+        let (short, needed) = (shortest(bytes), count_of_numbers(&reading.model));
         for length in [0, 1, needed / 2, needed - 1, needed, needed + 1, needed + 5] {
             let mut out = vec![PATTERN; length];
             let answer = write_plan(bytes, &mut out);
@@ -171,7 +232,7 @@ fn outputs() {
 fn refusals() {
     let mut seen = BTreeSet::new();
     for_models(40, |_, bytes| {
-        let own = read_model(bytes).err();
+        let own = read_plan(bytes).err();
         for length in [0, 1, 300] {
             let mut out = vec![PATTERN; length];
             let refusal = write_plan(bytes, &mut out).err();
@@ -200,8 +261,14 @@ fn more_states_than_scratch() {
 /// At each place of a plan every number is tried in every length.
 #[test]
 fn the_brute_force_route_redraws_alike() {
-    for kind in ["tiny", "small", "padded", "respelled"] {
-        for seed in 0..60 {
+    for (kind, seeds) in [
+        ("tiny", 60),
+        ("small", 60),
+        ("padded", 60),
+        ("respelled", 60),
+        ("blank", 300),
+    ] {
+        for seed in 0..seeds {
             let model = generate(seed, kind).unwrap();
             let least = spellings::least(&model, GREATEST);
             assert_eq!(Ok(shortest(&model)), least, "{model:?}");
@@ -231,8 +298,9 @@ fn larger_numbers_tried_too() {
 /// The plans of one location and no edges, for each clock each stay field.
 fn small_plans(clocks: usize) -> Vec<Vec<u8>> {
     let mut plans = Vec::new();
-    for ceiling in 1..=MAX_CEILING {
-        let header = vec![1, clocks as u8, ceiling, 1, 0, 0, 0];
+    let ceilings = 1..=MAX_CEILING;
+    for (mark, ceiling) in ceilings.flat_map(|ceiling| [(1, ceiling), (2, ceiling)]) {
+        let header = vec![mark, clocks as u8, ceiling, 1, 0, 0, 0];
         let mut begun = vec![header];
         for _ in 0..clocks {
             let longer = |plan: &Vec<u8>| {
@@ -248,25 +316,28 @@ fn small_plans(clocks: usize) -> Vec<Vec<u8>> {
 }
 
 /// All spellings of a plan: none is shorter, and as many are as short as there
-/// are choices between 0 and M+1. Ours is the least of these byte by byte.
+/// are choices between a blank and the same spelt out. Ours is the least of
+/// these byte by byte.
 fn compare_all_spellings(model: &[u8]) {
-    let plan = read(model).unwrap();
+    let read = read_with_mark(model).unwrap();
     let short = shortest(model);
     let all = spellings::all(model, GREATEST).unwrap();
     for other in &all {
-        assert_eq!(read(other).as_ref(), Ok(&plan));
+        assert_eq!(read_with_mark(other).as_ref(), Ok(&read));
         assert_eq!(shortest(other), short, "{other:?}");
         assert!(other.len() >= short.len());
     }
     let as_short = all.iter().filter(|other| other.len() == short.len());
-    let at_ceiling = plan
-        .limits
-        .concat()
-        .iter()
-        .filter(|&&limit| limit == plan.ceiling)
-        .count();
-    assert_eq!(as_short.clone().count(), 1 << at_ceiling);
+    assert_eq!(as_short.clone().count(), 1 << defaults(read.0, &read.1));
     assert_eq!(as_short.min(), Some(&short));
+}
+
+/// How many limits are the default.
+fn defaults(mark: u32, plan: &Plan) -> usize {
+    let places = (0..plan.limits.len()).flat_map(|at| (0..plan.clocks).map(move |k| (at, k)));
+    places
+        .filter(|&(at, clock)| plan.limits[at][clock] == plan.default_limit(mark, at, clock))
+        .count()
 }
 
 #[test]
@@ -290,14 +361,15 @@ fn alphabets() -> [(Vec<u8>, usize); 5] {
     ]
 }
 
-/// All accepted plans of some bytes, put together by content: the shortest of
-/// each and the least of these is ours, for every one of them.
+/// All accepted plans of some bytes, put together by mark and content: the
+/// shortest of each and the least of these is ours, for every one of them.
 #[test]
 fn all_plans_of_some_bytes() {
     for (bytes, longest) in alphabets() {
-        let mut groups: BTreeMap<Plan, Vec<Vec<u8>>> = BTreeMap::new();
+        let mut groups: BTreeMap<(u32, Plan), Vec<Vec<u8>>> = BTreeMap::new();
         for model in spellings::accepted(&bytes, longest) {
-            groups.entry(read(&model).unwrap()).or_default().push(model);
+            let read = read_with_mark(&model).unwrap();
+            groups.entry(read).or_default().push(model);
         }
         let mut forms = BTreeSet::new();
         for group in groups.values() {

@@ -18,26 +18,31 @@ const ZONES: usize = 20_000;
 fn models() -> impl Iterator<Item = Model> {
     (0..600)
         .flat_map(|seed| {
-            ["tiny", "small", "clocks-2", "clocks-3"].map(|kind| generate(seed, kind).unwrap())
+            ["tiny", "small", "blank", "clocks-2", "clocks-3"]
+                .map(|kind| generate(seed, kind).unwrap())
         })
         .map(|bytes| read_model(&bytes).unwrap())
         .filter(|model| model.edges.len() <= 10)
 }
 
 /// Perfect clocks enter a forbidden location exactly in the models that the
-/// region graph says so of.
+/// region graph says so of; hardly ever with more jumps than are tried.
 #[test]
 fn perfect_clocks() {
     let (mut plain, mut found) = (0, 0);
     for model in models() {
         let run = run_to_forbidden(&model, JUMPS, 0, 1);
-        let class = classify(&model);
-        assert!(class == Class::Plain || run.is_none(), "{model:?}");
-        plain += usize::from(class == Class::Plain);
+        let is_plain = classify(&model) == Class::Plain;
+        assert!(is_plain || run.is_none(), "{model:?}");
+        if is_plain && run.is_none() {
+            let fewest = fewest_jumps(&model, 0, 1, ZONES);
+            assert!(matches!(fewest, Fewest::Jumps(jumps) if jumps > JUMPS));
+        }
+        plain += usize::from(is_plain);
         found += usize::from(run.is_some());
     }
     println!("a run was found for {found} of {plain} models");
-    assert_eq!(found, plain);
+    assert!(found >= 500 && 100 * found >= 99 * plain);
 }
 
 /// A widening that is covered changes nothing: models that are safe, or
@@ -118,7 +123,7 @@ fn bytes<'a>(kinds: &'a [&str], seeds: u64) -> impl Iterator<Item = Vec<u8>> + '
 #[test]
 fn harmless_drift() {
     let (mut safe, mut harmed) = (0, 0);
-    for bytes in bytes(&["tiny", "small", "middle", "clocks-3"], 400) {
+    for bytes in bytes(&["tiny", "small", "blank", "middle", "clocks-3"], 400) {
         let Ok(SheetMargin::Safe { margin, .. }) = sheet_margin(&bytes, ENOUGH) else {
             continue;
         };
@@ -139,7 +144,7 @@ fn harmless_drift() {
 #[test]
 fn harm_in_time() {
     let mut drifted = 0;
-    for bytes in bytes(&["tiny", "small", "drift", "clocks-3"], 400) {
+    for bytes in bytes(&["tiny", "small", "blank", "drift", "clocks-3"], 400) {
         let Ok(Harm::Within { bound, .. }) = harm(&bytes, ENOUGH) else {
             continue;
         };

@@ -3,8 +3,8 @@
 //! to say.
 
 use crate::json::Json;
-use plan::Plan;
-use second::model::{Field, MARK};
+use plan::{Plan, BY_LAST_EDGE};
+use second::model::Field;
 use std::ops::Range;
 
 /// Something that two plans do not have in common.
@@ -107,10 +107,22 @@ impl<'a> Pair<'a> {
         let title = self.title(field);
         let [one, other] = [self.first, &self.renamed].map(|plan| value_words(plan, field));
         let more = match field {
+            Field::Mark if self.differ_in_mark_alone() => {
+                " (all limits are the same as read, and so are verdict and evidence)"
+            }
+            Field::Mark => {
+                " (a blank stay limit is the ceiling with mark 1, with mark 2 that of the last \
+                 edge to close, if one leaves)"
+            }
             Field::Ceiling => " (a limit at the ceiling in both is not listed)",
             _ => "",
         };
         format!("{title}: {one} in the first, {other} in the second{more}")
+    }
+
+    /// Whether the plans mean the same, though by different marks.
+    fn differ_in_mark_alone(&self) -> bool {
+        self.differences() == [Difference::Number(Field::Mark)]
     }
 
     /// What a number is, by the names of the first plan.
@@ -197,7 +209,8 @@ impl Part {
     }
 }
 
-const HEADER: [Field; 5] = [
+const HEADER: [Field; 6] = [
+    Field::Mark,
     Field::Clocks,
     Field::Ceiling,
     Field::Locations,
@@ -257,17 +270,14 @@ fn parts_of(field: Field) -> Vec<Part> {
 /// A number of a plan; for a stay field the limit that it means.
 fn number(plan: &Plan, field: Field) -> usize {
     match field {
-        Field::Mark => MARK as usize,
+        Field::Mark => plan.mark.into(),
         Field::Clocks => plan.clocks.len(),
         Field::Ceiling => plan.ceiling.into(),
         Field::Locations => plan.locations.len(),
         Field::Edges => plan.edges.len(),
         Field::Start => plan.start,
         Field::Kind { location } => plan.locations[location].forbidden.into(),
-        Field::Stay { location, clock } => {
-            let limit = plan.locations[location].stay[clock];
-            limit.unwrap_or(plan.ceiling).into()
-        }
+        Field::Stay { location, clock } => plan.limit(location, clock).into(),
         Field::From { edge } => plan.edges[edge].from,
         Field::To { edge } => plan.edges[edge].to,
         Field::Resets { edge } => plan.edges[edge].resets.into(),
@@ -288,6 +298,9 @@ fn value_words(plan: &Plan, field: Field) -> String {
     match field {
         Field::Start | Field::From { .. } | Field::To { .. } => plan.quoted(number),
         Field::Kind { location } => kind_words(plan, location).to_string(),
+        Field::Stay { location, clock } if plan.ends_with_last_edge(location, clock) => {
+            format!("{number} {BY_LAST_EDGE}")
+        }
         Field::Resets { edge } => match &plan.reset_names(&plan.edges[edge])[..] {
             [] => "none".to_string(),
             names => names.join(" and "),

@@ -128,6 +128,9 @@ pub struct Jump {
 pub enum Warning {
     /// Nothing is forbidden, so the plan is safe whatever it does.
     NothingForbidden,
+    /// With blank stay limits at the ceiling, as with mark 1, the proved verdict
+    /// is unsafe.
+    SafeByMark,
     /// Drift never leads into this location, by the proved marks.
     NeverEntered { location: usize },
     /// In no state that drift can reach does this edge open; not proved.

@@ -101,6 +101,7 @@ pub fn facts_json(facts: &Facts, evidence: Option<&str>) -> Json {
         ("drift", Json::or_null(Drift::of(plan), drift_json)),
         ("evidence", evidence_json(facts, evidence)),
         ("warnings", Json::List(warnings.collect())),
+        ("mark", Json::number(plan.mark)),
     ]);
     Json::Object(fields)
 }

@@ -2,17 +2,18 @@
 //! that belongs to the verdict.
 
 use crate::example::example;
-use crate::facts::{Facts, Finding, Perfect, Safe, Unsafe};
+use crate::facts::{Facts, Finding, Perfect, Safe, Unsafe, Warning};
 use crate::library::Library;
 use crate::outcome::Failure;
 use crate::perfect::perfect;
 use crate::warnings::warnings;
 use drift::{Harm, Kind, Refusal, SheetMargin, Verdict};
+use plan::bytes::encode;
 use plan::explain::{about, refusal_words};
 use plan::input::{content_of, Content, Form};
 use plan::trail::{read_trail, start_of};
 use plan::units::Quantity;
-use plan::{Flaw, Plan, Units};
+use plan::{Flaw, Plan, Units, CEILING_MARK};
 
 /// A plan's file as it was read.
 pub struct Source {
@@ -98,15 +99,32 @@ impl Source {
                 ..self.danger(library, &accepted, &evidence)?
             }),
         };
+        let mut found = warnings(&accepted.plan, &marks);
+        if judgement.verdict == Verdict::Safe && self.turns_by_mark(library, &accepted.plan)? {
+            found.insert(0, Warning::SafeByMark);
+        }
         Ok(Facts {
             title: self.title.clone(),
             states: judgement.states,
             finding,
             evidence,
-            warnings: warnings(&accepted.plan, &marks),
+            warnings: found,
             plan: accepted.plan,
             model: accepted.model,
         })
+    }
+
+    /// Whether a safe plan would be unsafe if blank stay limits were the ceiling.
+    fn turns_by_mark(&self, library: &mut Library, plan: &Plan) -> Result<bool, Failure> {
+        if plan.mark == CEILING_MARK {
+            return Ok(false);
+        }
+        let plan = Plan {
+            mark: CEILING_MARK,
+            ..plan.clone()
+        };
+        let judgement = self.proved(library.judge(&encode(&plan)))?;
+        Ok(judgement.verdict == Verdict::Unsafe)
     }
 
     /// The answer of a call on a plan that the library accepted.

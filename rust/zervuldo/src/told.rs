@@ -3,7 +3,7 @@
 use crate::facts::{Example, Facts, Finding, Perfect, Safe, Unsafe};
 use crate::text::{counted, wrapped};
 use crate::units::{drift_words, grouped, margin_words, units_words, Drift, Window};
-use plan::Plan;
+use plan::{Plan, EDGES_MARK};
 
 /// Where the words behind a label begin.
 const INDENT: usize = 18;
@@ -40,6 +40,8 @@ pub fn told(facts: &Facts, evidence: Option<String>) -> String {
         Finding::Safe(safe) => safe_lines(facts, safe),
         Finding::Unsafe(danger) => danger_lines(facts, danger),
     };
+    let mark = mark_words(&facts.plan);
+    lines.extend(mark.map(|words| ("mark", words.to_string())));
     lines.extend(evidence.map(|words| ("evidence", words)));
     let warnings = facts.warnings.iter();
     lines.extend(warnings.map(|warning| ("warning", warning.words(&facts.plan))));
@@ -64,6 +66,14 @@ fn safe_lines(facts: &Facts, safe: &Safe) -> Vec<Line> {
     lines.extend(drift_words(plan).map(|words| ("drift", words)));
     lines.push(("crystals", margin_words(plan, safe)));
     lines
+}
+
+/// The mark with its meaning, where a blank stay limit is not simply the
+/// ceiling. How many there are is no matter: spellings of one plan differ in it.
+pub fn mark_words(plan: &Plan) -> Option<&'static str> {
+    let words = "2: a blank stay limit is that of the last edge to close, or the ceiling where \
+                 no edge leaves";
+    (plan.mark == EDGES_MARK).then_some(words)
 }
 
 /// What the margin of a safe plan means.

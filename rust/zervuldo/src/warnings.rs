@@ -9,7 +9,7 @@ impl Warning {
     /// Whether the proved marks say so; else code that is not proved does.
     pub fn is_proved(&self) -> bool {
         match self {
-            Warning::NothingForbidden | Warning::NeverEntered { .. } => true,
+            Warning::NothingForbidden | Warning::SafeByMark | Warning::NeverEntered { .. } => true,
             Warning::NeverOpens { .. } | Warning::Stuck { .. } => false,
         }
     }
@@ -20,6 +20,9 @@ impl Warning {
             Warning::NothingForbidden => {
                 "no location is forbidden, so the plan is safe whatever it does".to_string()
             }
+            Warning::SafeByMark => "the plan is safe by its mark: with mark 1, where a blank stay \
+                                    limit is the ceiling, it is unsafe"
+                .to_string(),
             Warning::NeverEntered { location } => {
                 format!("{} is never entered", plan.quoted(*location))
             }

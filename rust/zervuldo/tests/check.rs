@@ -111,6 +111,22 @@ fn evidence_that_fails() {
     }
 }
 
+/// The trail of a plan with mark 1 for its copy with mark 2, whose last edge has
+/// closed: the place names the limit.
+#[test]
+fn evidence_for_the_other_mark() {
+    let [old, new] = [1, 2].map(|mark| {
+        let name = format!("check-late-{mark}.model");
+        file(&name, [&[mark], &LATE[1..]].concat())
+    });
+    let trail = file("late.trail", [2, 5, 0, 0, 0, 0, 1, 0]);
+    printed(&["check", &old, &trail], GOOD);
+    let told = printed(&["check", &new, &trail], BAD);
+    assert!(told.starts_with("fails: refused 13: "), "{told}");
+    let place = "step 5: 'L1' may be stayed in while x<=1 (last edge), not at x=2\n";
+    assert!(told.ends_with(place), "{told}");
+}
+
 #[test]
 fn a_refused_plan_is_not_the_evidence() {
     let model = file("short.model", [1, 1]);

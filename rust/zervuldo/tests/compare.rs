@@ -3,9 +3,10 @@
 mod common;
 
 use common::*;
+use second::blanks::with_mark;
 use second::generate::generate;
 use second::random::Random;
-use second::read_model;
+use second::read_plan;
 
 #[test]
 fn the_same_bytes() {
@@ -61,7 +62,27 @@ edge rings -> lost when far>=2
 ";
 
 /// A change of the plan above, and the lines that tell it.
-const CHANGES: [(&str, &str, &[&str]); 14] = [
+const CHANGES: [(&str, &str, &[&str]); 17] = [
+    (
+        "clocks own far",
+        "mark 2\nclocks own far",
+        &["mark: 1 in the first, 2 in the second (all limits are the same as read, and so are \
+           verdict and evidence)"],
+    ),
+    (
+        "location idle start stay own<=2",
+        "mark 2\nlocation idle start stay far<=3",
+        &[
+            "mark: 1 in the first, 2 in the second (a blank stay limit is the ceiling with mark 1, \
+             with mark 2 that of the last edge to close, if one leaves)",
+            "'idle', stay limit of own: 2 in the first, 1 (last edge) in the second",
+        ],
+    ),
+    (
+        "ceiling 3",
+        "ceiling 3\nmark 1",
+        &[],
+    ),
     (
         "ceiling 3",
         "ceiling 4",
@@ -205,6 +226,107 @@ fn one_clock_more() {
     assert!(told.contains("\n2 differences, "), "{told}");
 }
 
+#[test]
+fn the_same_numbers_with_the_other_mark() {
+    let [old, new] = [1, 2].map(|mark| {
+        let name = format!("late-{mark}.model");
+        file(&name, with_mark(&LATE, mark).unwrap())
+    });
+    let heading = "different plans\n2 differences, found by code that is not proved:\n";
+    assert_eq!(
+        printed(&["compare", &old, &new], BAD),
+        format!(
+            "{heading}  mark: 1 in the first, 2 in the second (a blank stay limit is the ceiling \
+             with mark 1, with mark 2 that of the last edge to close, if one leaves)\n  'L1', \
+             stay limit of x: 2 in the first, 1 (last edge) in the second\n"
+        )
+    );
+    let told = printed(&["compare", &new, &old], BAD);
+    let line = "\n  'L1', stay limit of x: 1 (last edge) in the first, 2 in the second\n";
+    assert!(told.starts_with(heading) && told.ends_with(line), "{told}");
+    let told = printed(&["compare", &old, &new, "--json"], BAD);
+    for part in [
+        "\"differences\":[{\"what\":\"mark\",\"plan\":1,\"other\":2,\"words\":\"mark: 1 in",
+        "{\"what\":\"stay limit\",\"location\":1,\"clock\":0,\"plan\":2,\"other\":1,",
+    ] {
+        assert!(told.contains(part), "{told}");
+    }
+}
+
+/// The example with all limits left blank has those of the one that names them.
+#[test]
+fn the_same_limits_by_the_other_mark() {
+    let told = printed(
+        &["compare", &plan("poll.txt"), &plan("poll-blank.txt")],
+        BAD,
+    );
+    let line = "\n  mark: 1 in the first, 2 in the second (all limits are the same as read, ";
+    assert!(
+        told.contains("\n1 difference, ") && told.contains(line),
+        "{told}"
+    );
+    let [old, new] = ["poll", "poll-blank"].map(|name| {
+        let folder = folder(&format!("same-{name}"));
+        let evidence = folder.to_str().unwrap();
+        printed(
+            &[
+                "judge",
+                &plan(&format!("{name}.txt")),
+                "--evidence",
+                evidence,
+            ],
+            BAD,
+        );
+        std::fs::read(folder.join(format!("{name}.trail"))).unwrap()
+    });
+    assert_eq!(old, new);
+}
+
+/// Each limit that moves with the mark is told, and no other; a plan with as
+/// many as there can be shows them all.
+#[test]
+fn each_limit_that_the_mark_moves() {
+    let names = ["moved.old", "moved.new"].map(|name| file(name, ""));
+    let changed = |plan: &[u8]| {
+        let [old, new] = [1, 2].map(|mark| with_mark(plan, mark).unwrap());
+        for (name, content) in names.iter().zip([&old, &new]) {
+            std::fs::write(name, content).unwrap();
+        }
+        let told = String::from_utf8(outcome(&["compare", &names[0], &names[1]]).output).unwrap();
+        let [old, new] = [old, new].map(|plan| read_plan(&plan).unwrap().model);
+        let limits = old.locations.iter().zip(&new.locations);
+        let moved = limits.flat_map(|(old, new)| old.limit.iter().zip(&new.limit));
+        let moved = moved.filter(|(old, new)| old != new).count();
+        assert_eq!(
+            told.matches(" (last edge) in the second\n").count(),
+            moved,
+            "{told}"
+        );
+        assert_eq!(
+            told.matches("the same as read").count(),
+            usize::from(moved == 0)
+        );
+        assert_eq!(told.lines().count(), 2 + 1 + moved, "{told}");
+        moved
+    };
+    let mut seen = [0; 2];
+    for seed in 0..300 {
+        let kind = ["small", "middle", "clocks-3", "blank"][seed as usize % 4];
+        let moved = changed(&generate(seed, kind).unwrap());
+        seen[usize::from(moved > 0)] += 1;
+    }
+    assert!(seen.iter().all(|&count| count > 30), "{seen:?}");
+    let locations = (0..8)
+        .map(|at| format!("location l{at}\nedge l{at} -> l{at} when x=0, y=0, z=0 reset all\n"));
+    let all: String = locations.collect();
+    let all = format!(
+        "clocks x y z\nceiling 1\n{}",
+        all.replacen("l0\n", "l0 start\n", 1)
+    );
+    let all = bytes(&["encode", &file("all-move.txt", all)]);
+    assert_eq!(changed(&all), 24);
+}
+
 /// The first plan's names, or those of decoded bytes; and both ways round.
 #[test]
 fn names_come_from_the_first() {
@@ -233,12 +355,12 @@ fn names_come_from_the_first() {
 fn only_the_first_differences_are_shown() {
     let (tiny, largest) = (plan("tiny.txt"), plan("largest.txt"));
     let told = printed(&["compare", &tiny, &largest], BAD);
-    assert_eq!(told.lines().count(), 2 + 20 + 1, "{told}");
+    assert_eq!(told.lines().count(), 2 + 25 + 1, "{told}");
     assert!(
         told.starts_with("different plans\n37 differences, "),
         "{told}"
     );
-    assert!(told.ends_with("\n  and 17 more\n"), "{told}");
+    assert!(told.ends_with("\n  and 12 more\n"), "{told}");
     let json = printed(&["compare", "--json", &tiny, &largest], BAD);
     assert_eq!(json.matches("\"what\":").count(), 37);
 }
@@ -333,7 +455,7 @@ fn many_pairs() {
             std::fs::write(name, content).unwrap();
         }
         let found = outcome(&["compare", &names[0], &names[1]]);
-        let expected = match (read_model(&model), read_model(&other)) {
+        let expected = match (read_plan(&model), read_plan(&other)) {
             (Ok(one), Ok(other)) if one == other => GOOD,
             (Ok(_), Ok(_)) => BAD,
             _ => REFUSED,

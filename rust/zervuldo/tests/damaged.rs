@@ -16,7 +16,7 @@ struct Whole {
 }
 
 fn whole() -> Whole {
-    let names = ["tiny", "loop", "poll", "poll-mended"];
+    let names = ["tiny", "loop", "poll", "poll-blank", "poll-mended"];
     let texts = names.map(|name| std::fs::read(plan(&format!("{name}.txt"))).unwrap());
     let models = names.map(|name| outcome(&["encode", &plan(&format!("{name}.txt"))]).output);
     let listed = ["tiny", "loop"].map(|name| std::fs::read(plan(&format!("{name}.plan"))).unwrap());
@@ -35,7 +35,8 @@ fn whole() -> Whole {
 
 /// Bytes with some dropped, changed or put in; now and then cut short.
 fn damaged(random: &mut Random, mut bytes: Vec<u8>) -> Vec<u8> {
-    const SCRAPS: [&[u8]; 12] = [
+    const SCRAPS: [&[u8]; 13] = [
+        b"mark 2",
         b"<=",
         b"\n",
         b"unit 9",

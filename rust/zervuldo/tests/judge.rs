@@ -102,6 +102,53 @@ fn warnings() {
     assert!(!told.contains("stuck"), "{told}");
 }
 
+/// What is told of a plan with mark 2.
+const MARK_2: &str = " mark 2: a blank stay limit is that of the last edge to close, or the \
+                      ceiling where no edge leaves";
+
+const SAFE_BY_MARK: &str =
+    " warning the plan is safe by its mark: with mark 1, where a blank stay \
+                            limit is the ceiling, it is unsafe";
+
+#[test]
+fn a_verdict_by_the_mark() {
+    let told = |mark: u8, status| {
+        let model = file("late.model", [&[mark], &LATE[1..]].concat());
+        joined(&printed(&["judge", &model], status))
+    };
+    let old = told(1, BAD);
+    assert!(old.contains("states 10 trail 5 steps into 'L1'"), "{old}");
+    assert!(!old.contains(" mark "), "{old}");
+    let new = told(2, GOOD);
+    assert!(
+        new.contains("states 10, 5 of them reached by drift"),
+        "{new}"
+    );
+    assert!(new.contains(MARK_2), "{new}");
+    assert!(new.contains(SAFE_BY_MARK), "{new}");
+    // Safe with either mark: the edge into the forbidden location never opens.
+    let shut = [&[2], &LATE[1..7], &[1], &LATE[8..]].concat();
+    let shut = joined(&printed(&["judge", &file("late.model", shut)], GOOD));
+    assert!(shut.contains(MARK_2), "{shut}");
+    assert!(!shut.contains("by its mark"), "{shut}");
+    // The limit that mark 1 gave it, written out.
+    let moved = [&[2], &LATE[1..9], &[3], &LATE[10..]].concat();
+    let moved = joined(&printed(&["judge", &file("late.model", moved)], BAD));
+    assert_eq!(moved.replace(MARK_2, ""), old);
+}
+
+/// With no limit written, all that is told but the mark is what poll.txt has.
+#[test]
+fn blank_limits() {
+    let options = ["--unit", "20ms", "--crystal", "50ppm"];
+    let [old, new] = ["poll", "poll-blank"].map(|name| {
+        let told = judged(&format!("{name}.txt"), &options, BAD);
+        told.strip_prefix(name).unwrap().to_string()
+    });
+    assert!(!old.contains(MARK_2) && new.contains(MARK_2), "{new}");
+    assert_eq!(new.replace(MARK_2, ""), old);
+}
+
 #[test]
 fn every_form_by_content() {
     let model = bytes(&["encode", &plan("loop.txt")]);
@@ -199,9 +246,22 @@ fn json() {
         "\"perfect_clocks\":{\"clean\":true,\"proved\":false}",
         "\"window\":{\"least_jumps\":6666,",
         "\"passes_proved_check\":true",
+        ",\"mark\":1}\n",
     ] {
         assert!(told.contains(part), "{told}");
     }
+    let blank = printed(
+        &[
+            "judge",
+            &plan("poll-blank.txt"),
+            "--json",
+            "--crystal=50ppm",
+        ],
+        BAD,
+    );
+    assert!(blank.ends_with(",\"mark\":2}\n"), "{blank}");
+    let renamed = blank.replace("poll-blank", "poll");
+    assert_eq!(renamed.replace("\"mark\":2", "\"mark\":1"), told);
     let told = printed(
         &[
             "judge",
@@ -214,7 +274,7 @@ fn json() {
     assert!(told.starts_with(
         "[{\"plan\":\"tiny\",\"verdict\":\"safe\",\"states\":3,\"marked\":3,\"margin\":2,"
     ));
-    let refused = file("json.model", [2]);
+    let refused = file("json.model", [3]);
     let output = run_on(&["judge", &refused, "--json"], b"");
     assert_eq!(output.status.code(), Some(REFUSED));
     let told = String::from_utf8(output.stdout).unwrap();

@@ -37,6 +37,29 @@ edge L2 -> L3 when x=0, y=2
     assert!(units.contains("\nceiling 2\nunit 2.5 ms\nbit rate 300\n\nlocation"));
 }
 
+/// The mark and the blank fields come back, in bytes and as text.
+#[test]
+fn encode_and_decode_a_mark() {
+    let model = bytes(&["encode", &plan("poll-blank.txt")]);
+    assert_eq!(model[..14], [2, 2, 3, 4, 4, 0, 0, 0, 0, 0, 0, 0, 0, 0]);
+    let file = file("blank.model", &model);
+    let text = printed(&["decode", &file], GOOD);
+    assert!(text.starts_with("mark 2\nclocks x y\nceiling 3\n\nlocation L0 start\nlocation L1\n"));
+    assert_eq!(run_on(&["encode", "-"], text.as_bytes()).stdout, model);
+    // Without its first line it is a plan of mark 1 with the same fields.
+    let old = run_on(
+        &["encode", "-"],
+        text.trim_start_matches("mark 2\n").as_bytes(),
+    );
+    assert_eq!(old.stdout, [&[1], &model[1..]].concat());
+    let wrong = text.replace("mark 2", "mark 3");
+    let shown = run_on(&["encode", "-"], wrong.as_bytes());
+    assert_eq!(shown.status.code(), Some(REFUSED));
+    let shown = String::from_utf8(shown.stderr).unwrap();
+    let words = "-, line 1, column 6: the mark is 3, but it can only be 1 or 2\n    mark 3\n";
+    assert!(shown.starts_with(words), "{shown}");
+}
+
 #[test]
 fn mistakes_are_shown() {
     let text = file("wrong.txt", "clocks x\nceiling 5\nlocation a\n");
@@ -73,6 +96,23 @@ fn draw() {
 }
 
 #[test]
+fn draw_by_the_mark() {
+    for arguments in [&["draw"][..], &["draw", "--plain"]] {
+        let [old, new] = ["poll.txt", "poll-blank.txt"]
+            .map(|name| printed(&[arguments, &[&plan(name)]].concat(), GOOD));
+        assert!(
+            new.contains(">clocks panel, repeater; ceiling 3; mark 2<"),
+            "{new}"
+        );
+        assert_eq!(new.matches(">(last edge)<").count(), 1);
+        assert_eq!(new.matches(">(last edge): no limit is written").count(), 1);
+        assert!(old.contains(">clocks panel, repeater; ceiling 3<"), "{old}");
+        assert!(!old.contains("last edge"));
+        assert!(old.contains(">stay panel≤1<") && new.contains(">stay panel≤1<"));
+    }
+}
+
+#[test]
 fn words() {
     let trail = file("words.trail", LOOP_TRAIL);
     let told = printed(&["words", &plan("loop.txt"), &trail], GOOD);
@@ -105,6 +145,13 @@ fn explain() {
     let model = file("explain.model", [1, 1, 9]);
     let told = printed(&["explain", "3", &model], GOOD);
     assert!(told.ends_with("\nhere: number 3 (byte 3), the ceiling: it is 9, but must be 1 to 4\n"));
+    let model = file("explain.mark", [3, 1, 9]);
+    let told = printed(&["explain", "3", &model], GOOD);
+    assert!(
+        told.contains("\nA plan begins with the mark, 1 or 2, then clocks "),
+        "{told}"
+    );
+    assert!(told.ends_with("\nhere: number 1 (byte 1), the mark: it is 3, but must be 1 or 2\n"));
     let trail = file("explain.trail", [2, 1, 1, 1]);
     let told = printed(&["explain", "13", &plan("loop.txt"), &trail], GOOD);
     assert!(

@@ -7,8 +7,9 @@ mod contrast;
 use common::*;
 use contrast::{attribute, contrast, contrasts, LEAST};
 
-/// A safe plan, one that drift alone makes unsafe, one that is unsafe anyway.
-const KINDS: [&str; 3] = ["poll-mended.txt", "poll.txt", "hasty.txt"];
+/// A safe plan, one that drift alone makes unsafe, one that is unsafe anyway,
+/// and one with mark 2.
+const KINDS: [&str; 4] = ["poll-mended.txt", "poll.txt", "hasty.txt", "poll-blank.txt"];
 
 fn page(name: &str, options: &[&str]) -> String {
     let plan = plan(name);
@@ -183,6 +184,31 @@ fn a_plan_that_is_unsafe_anyway() {
     );
 }
 
+/// The page of a plan with mark 2 tells it with the figures, in the picture and
+/// in the text; one with mark 1 has nothing of it.
+#[test]
+fn a_plan_with_blank_limits() {
+    let [old, new] = ["poll.txt", "poll-blank.txt"].map(|name| page(name, &[]));
+    assert_told(
+        &new,
+        &[
+            "Mark 2: a blank stay limit is that of the last edge to close, or the ceiling where \
+             no edge leaves given with the plan",
+            "clocks panel, repeater; ceiling 3; mark 2",
+            "stay panel≤1 (last edge)",
+            "mark 2 clocks panel repeater ceiling 3 location power-up start location waiting",
+            "The plan, 46 bytes 2, 2, 3, 4, 4, 0, 0, 0, 0,",
+        ],
+    );
+    assert!(!words(&old).contains("mark 2") && !words(&old).contains("last edge"));
+    // The story of the trail, and the clocks over time, are the same.
+    let story = |page: &str| {
+        let from = page.find("<h2>How it happens</h2>").unwrap();
+        page[from..page.find("<h2>Check it again</h2>").unwrap()].to_string()
+    };
+    assert_eq!(story(&old), story(&new));
+}
+
 #[test]
 fn warnings_come_with_the_verdict() {
     let page = page("largest.txt", &[]);
@@ -203,7 +229,7 @@ fn lists(page: &str) -> Vec<&str> {
 /// Whoever has the page alone can check the evidence.
 #[test]
 fn the_numbers_on_the_page_pass_the_check() {
-    for (name, kind) in KINDS.into_iter().zip(["sheet", "trail", "trail"]) {
+    for (name, kind) in KINDS.into_iter().zip(["sheet", "trail", "trail", "trail"]) {
         let page = page(name, &[]);
         let [plan, evidence] = lists(&page)[..] else {
             panic!("{name}: two lists")

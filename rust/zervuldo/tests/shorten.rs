@@ -4,7 +4,7 @@ mod common;
 
 use common::*;
 use second::generate::generate;
-use second::read_model;
+use second::read_plan;
 use second::shortest_plan::shortest_plan;
 
 /// The smallest plan, and the same with padding and a stay field of M+1.
@@ -44,6 +44,7 @@ fn a_text_comes_out_as_bytes() {
         "hasty",
         "largest",
         "loop",
+        "poll-blank",
         "poll-mended",
         "poll",
         "tiny",
@@ -53,25 +54,26 @@ fn a_text_comes_out_as_bytes() {
         let encoded = file(&format!("{name}.encoded"), bytes(&["encode", &text]));
         let short = bytes(&["shorten", &text]);
         assert_eq!(bytes(&["shorten", &encoded]), short);
-        assert_eq!(short, shortest_plan(&read_model(&short).unwrap()));
+        assert_eq!(short, shortest_plan(&read_plan(&short).unwrap()));
     }
     let text = std::fs::read_to_string(plan("tiny.txt")).unwrap();
     let lone = file("lone.txt", format!("bit rate 300\n{text}"));
     assert_eq!(bytes(&["shorten", &lone]), TINY);
 }
 
-/// Padded plans and others, beside the second checker's writer.
+/// Padded plans and others of both marks, beside the second checker's writer.
 #[test]
 fn many_plans() {
+    const KINDS: [&str; 6] = ["padded", "small", "middle", "drift", "respelled", "blank"];
     let name = file("many.model", "");
-    for seed in 0..600 {
-        let kind = ["padded", "small", "middle", "drift"][seed as usize % 4];
+    for seed in 0..900 {
+        let kind = KINDS[seed as usize % KINDS.len()];
         let model = generate(seed, kind).unwrap();
         std::fs::write(&name, &model).unwrap();
         let short = outcome(&["shorten", &name]).output;
         assert_eq!(
             short,
-            shortest_plan(&read_model(&model).unwrap()),
+            shortest_plan(&read_plan(&model).unwrap()),
             "{kind} {seed}"
         );
         let status = outcome(&["shorten", "--check", &name]).status as i32;
@@ -87,7 +89,9 @@ fn many_plans() {
 #[test]
 fn the_verdict_stays() {
     let [before, after] = ["before", "after"].map(folder);
-    for name in ["poll.txt", "poll-mended.txt"] {
+    let poll = std::fs::read_to_string(plan("poll.txt")).unwrap();
+    let marked = file("poll-marked.txt", format!("mark 2\n{poll}"));
+    for text in [plan("poll.txt"), plan("poll-mended.txt"), marked] {
         let judged = |folder: &std::path::Path, content: Vec<u8>| {
             let [model, evidence] = ["plan", "evidence"].map(|name| folder.join(name));
             std::fs::write(&model, content).unwrap();
@@ -99,12 +103,11 @@ fn the_verdict_stays() {
                 .map(|entry| std::fs::read(entry.unwrap().path()).unwrap())
                 .collect();
             evidence.sort();
-            (told.replace(folder.to_str().unwrap(), ""), evidence)
+            // The lines break by the length of the folder's name.
+            let told = joined(&told).replace(folder.to_str().unwrap(), "");
+            (told, evidence)
         };
-        let (long, short) = (
-            bytes(&["encode", &plan(name)]),
-            bytes(&["shorten", &plan(name)]),
-        );
+        let (long, short) = (bytes(&["encode", &text]), bytes(&["shorten", &text]));
         assert_ne!(long, short);
         assert_eq!(judged(&before, long), judged(&after, short));
     }
@@ -146,7 +149,7 @@ fn onto_the_same_file() {
 }
 
 /// Plans, and what `--check` says of them.
-const CHECKED: [(&str, &[u8], i32, &str); 6] = [
+const CHECKED: [(&str, &[u8], i32, &str); 10] = [
     ("tiny.model", &TINY, GOOD, "in its shortest form"),
     ("tiny.list", b"1,1,1,1 # header\n0,0,0,0", GOOD, "in its shortest form"),
     (
@@ -174,6 +177,24 @@ const CHECKED: [(&str, &[u8], i32, &str); 6] = [
         BAD,
         "not in its shortest form: the ceiling is spelt 3 in 2 stay fields, where 0 means the same",
     ),
+    // With mark 2 it goes by the edges: a loop that closes at 1 of 3.
+    (
+        "edge.list",
+        b"2,1,3,1,1,0,0,2,0,0,1,0,1",
+        BAD,
+        "not in its shortest form: the default limit is spelt 2 in 1 stay field, where 0 means the \
+         same",
+    ),
+    ("ceiling.list", b"2,1,3,1,1,0,0,4,0,0,1,0,1", GOOD, "in its shortest form"),
+    ("old.list", b"1,1,3,1,1,0,0,2,0,0,1,0,1", GOOD, "in its shortest form"),
+    (
+        "edges.txt",
+        b"mark 2\nclocks x y\nceiling 2\nlocation a start stay x<=1, y<=2\nlocation b stay x<=2\n\
+          edge a -> b when x=1\nedge a -> a when x=0 reset all\n",
+        BAD,
+        "not in its shortest form: the default limit is spelt 2 or 3 in 3 stay fields, where 0 \
+         means the same",
+    ),
 ];
 
 #[test]
@@ -191,6 +212,25 @@ fn check() {
     let shown = complaint(&["shorten", &name, "--check", "-o", &name], FAILED);
     assert!(shown.contains("--check writes no plan"), "{shown}");
     assert_eq!(std::fs::read(name).unwrap(), PADDED);
+}
+
+/// The mark stays, and with it what a blank field means: the same numbers with
+/// the other mark come out otherwise.
+#[test]
+fn each_mark_has_its_own_form() {
+    let short = |numbers: &[u8]| bytes(&["shorten", &file("marked.model", numbers)]);
+    // A loop that closes at 1 of 3, and its stay field.
+    let plan = |mark, stay| [mark, 1, 3, 1, 1, 0, 0, stay, 0, 0, 1, 0, 1];
+    for (mark, blank, kept) in [(1, 4, [1, 2, 3]), (2, 2, [1, 3, 4])] {
+        for stay in [0, blank] {
+            assert_eq!(short(&plan(mark, stay)), plan(mark, 0), "{mark} {stay}");
+        }
+        for stay in kept {
+            assert_eq!(short(&plan(mark, stay)), plan(mark, stay), "{mark} {stay}");
+        }
+    }
+    let padded = [&[130, 128, 0], &plan(2, 2)[1..]].concat();
+    assert_eq!(short(&padded), plan(2, 0));
 }
 
 /// One plan for each refusal of a model, and the place that is shown.

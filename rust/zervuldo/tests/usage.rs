@@ -27,6 +27,35 @@ fn help_for_all_and_for_each() {
     assert_eq!(printed(&["--version"], GOOD), version);
 }
 
+/// What a blank stay limit means is told for both marks.
+#[test]
+fn marks_in_the_help() {
+    for (arguments, told) in [
+        (
+            &["help"][..],
+            "A blank stay limit is the ceiling with mark 1; with mark 2 that of the last edge to \
+             close, or the ceiling where no edge leaves.",
+        ),
+        (
+            &["help", "shorten"],
+            "as 0 a stay limit that is the default: with mark 1 the ceiling, with mark 2 the \
+             greatest high of the edges that leave the location, or the ceiling where none does.",
+        ),
+        (
+            &["help", "shorten"],
+            "The plan stays the same, and keeps its mark.",
+        ),
+        (
+            &["help", "compare"],
+            "plans of two marks differ, even if in nothing else.",
+        ),
+        (&["help", "decode"], "The mark is told where it is 2"),
+    ] {
+        let help = joined(&printed(arguments, GOOD));
+        assert!(help.contains(told), "{help}");
+    }
+}
+
 /// Wrong arguments, P standing for a plan, and what is said of them.
 const WRONG: [(&str, &str); 17] = [
     ("", "zervuldo: judge the timing"),

@@ -69,10 +69,11 @@ fn drift_words(plan: &Plan, story: &Story, part: &Part, number: usize) -> String
 }
 
 /// What the signs of a drawing mean, those that are in it.
-pub fn legend(marks: &Marks, story: &Story, width: f64) -> Vec<Entry> {
+pub fn legend(plan: &Plan, marks: &Marks, story: &Story, width: f64) -> Vec<Entry> {
     let has_faces = marks.locations.iter().any(|mark| !mark.faces.is_empty());
     let shown = [
         (true, &OF_ALL[..]),
+        (plan.has_last_edge_limits(), &OF_LAST_EDGES),
         (!story.parts.is_empty(), &OF_TRAILS),
         (has_faces, &OF_FACES),
         (!story.loops.is_empty(), &OF_LOOPS),
@@ -101,6 +102,12 @@ const OF_ALL: [Sign; 2] = [
         FAINT,
     ),
 ];
+
+const OF_LAST_EDGES: [Sign; 1] = [(
+    None,
+    "(last edge): no limit is written, and with mark 2 that means until the last edge closes",
+    FAINT,
+)];
 
 const OF_TRAILS: [Sign; 1] = [(
     Some(Stroke::Trail),

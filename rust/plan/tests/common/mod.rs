@@ -9,12 +9,13 @@ use second::program::OUTPUT;
 pub const ENOUGH: [usize; 4] = [MAX_STATES; 4];
 
 /// The example plans with a text of their own.
-pub const EXAMPLES: [&str; 7] = [
+pub const EXAMPLES: [&str; 8] = [
     "loop",
     "tiny",
     "largest",
     "poll",
     "poll-mended",
+    "poll-blank",
     "two-repeaters",
     "hasty",
 ];
@@ -39,6 +40,20 @@ pub fn evidence(model: &[u8]) -> Vec<u8> {
     let (_, written) = second::write_evidence(model, ENOUGH, &mut out).expect("an accepted model");
     out.truncate(written);
     out
+}
+
+/// The marks of all states, by the second checker.
+pub fn marks(model: &[u8]) -> Vec<u8> {
+    let mut out = vec![0; MAX_STATES];
+    let states = second::marks(model, ENOUGH, &mut out).expect("an accepted model");
+    out.truncate(states);
+    out
+}
+
+/// Every stay field of a plan, as location and clock.
+pub fn stay_fields(plan: &Plan) -> impl Iterator<Item = (usize, usize)> + '_ {
+    let locations = 0..plan.locations.len();
+    locations.flat_map(|location| (0..plan.clocks.len()).map(move |clock| (location, clock)))
 }
 
 /// The trail of document 01 for the loop plan.

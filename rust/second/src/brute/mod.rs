@@ -5,7 +5,8 @@
 //! corners are the whole points of a region's closure; closed walks come from
 //! a transitive closure, marks and heights from repeated sweeps; trails and
 //! walks are compared as whole lists, and walks within a fringe lengthened
-//! step by step; spellings of a number and of a plan are tried one by one.
+//! step by step; limits that blank stay fields mean, and spellings of a number
+//! and of a plan, are tried one by one.
 
 pub mod check;
 pub mod harm;

@@ -1,5 +1,6 @@
 //! Reading a model: all numbers are spelled out first, then each is held
-//! against the range that the numbers before it give.
+//! against the range that the numbers before it give. Blank stay fields are
+//! looked up in the drawing, from the ceiling down.
 
 use crate::limits::{MAX_CEILING, MAX_CLOCKS, MAX_EDGES, MAX_LOCATIONS, NUMBER_BYTES};
 
@@ -77,7 +78,7 @@ impl Spelled<'_> {
 /// one outside; none after the last number of a model.
 fn expected(before: &[u32]) -> Option<(u32, u32, u8)> {
     let header = [
-        (1, 1),
+        (1, 2),
         (1, MAX_CLOCKS as u32),
         (1, MAX_CEILING.into()),
         (1, MAX_LOCATIONS as u32),
@@ -115,6 +116,10 @@ fn expected(before: &[u32]) -> Option<(u32, u32, u8)> {
 }
 
 pub fn read(bytes: &[u8]) -> Result<Plan, u8> {
+    read_with_mark(bytes).map(|(_, plan)| plan)
+}
+
+pub fn read_with_mark(bytes: &[u8]) -> Result<(u32, Plan), u8> {
     let spelled = spelled(bytes);
     let mut length = 0;
     while let Some((least, greatest, refusal)) = expected(&spelled.numbers[..length]) {
@@ -131,13 +136,13 @@ pub fn read(bytes: &[u8]) -> Result<Plan, u8> {
     if (0..plan.clocks).any(|clock| plan.walks_without_reset(clock)) {
         return Err(7);
     }
-    Ok(plan)
+    Ok((spelled.numbers[0], plan))
 }
 
 fn plan_of(numbers: &[u32]) -> Plan {
     let (clocks, ceiling, locations) = (numbers[1] as usize, numbers[2], numbers[3] as usize);
     let (drawn, edges) = numbers[6..].split_at(locations * (1 + clocks));
-    Plan {
+    let mut plan = Plan {
         clocks,
         ceiling,
         start: numbers[5] as usize,
@@ -145,15 +150,7 @@ fn plan_of(numbers: &[u32]) -> Plan {
             .chunks(1 + clocks)
             .map(|location| location[0] == 1)
             .collect(),
-        limits: drawn
-            .chunks(1 + clocks)
-            .map(|location| {
-                location[1..]
-                    .iter()
-                    .map(|&s| s.checked_sub(1).unwrap_or(ceiling))
-                    .collect()
-            })
-            .collect(),
+        limits: Vec::new(),
         edges: edges
             .chunks(3 + 2 * clocks)
             .map(|edge| PlanEdge {
@@ -165,10 +162,30 @@ fn plan_of(numbers: &[u32]) -> Plan {
                 guard: edge[3..].chunks(2).map(|pair| (pair[0], pair[1])).collect(),
             })
             .collect(),
-    }
+    };
+    let limit = |location: usize, clock: usize| match drawn[location * (1 + clocks) + 1 + clock] {
+        0 => plan.default_limit(numbers[0], location, clock),
+        stay => stay - 1,
+    };
+    let limits = |location| (0..clocks).map(|clock| limit(location, clock)).collect();
+    plan.limits = (0..locations).map(limits).collect();
+    plan
 }
 
 impl Plan {
+    /// What a blank stay field means with a mark. With mark 2 values are tried
+    /// from the ceiling down, until an edge from the location has the value as
+    /// its high; if none has any, and with mark 1, it is the ceiling.
+    pub fn default_limit(&self, mark: u32, location: usize, clock: usize) -> u32 {
+        let closes_at =
+            |edge: &PlanEdge, value: u32| edge.from == location && edge.guard[clock].1 == value;
+        (0..=self.ceiling)
+            .rev()
+            .filter(|_| mark == 2)
+            .find(|&value| self.edges.iter().any(|edge| closes_at(edge, value)))
+            .unwrap_or(self.ceiling)
+    }
+
     /// Whether some location comes back to itself along edges that do not
     /// reset the clock. A shortest such walk is no longer than the number of
     /// locations.

@@ -1,8 +1,8 @@
 //! Spellings, by trial. Of a number: all shorter bytes are tried. Of a plan:
 //! bytes are put in the place of a number, or appended one by one, and what
-//! reads as the same plan is kept.
+//! reads as the same plan with the same mark is kept.
 
-use super::read::{read, value_of};
+use super::read::{read, read_with_mark, value_of};
 use crate::limits::NUMBER_BYTES;
 
 /// Whether no fewer bytes spell the number that these bytes are.
@@ -17,15 +17,15 @@ pub fn is_shortest(number: &[u8]) -> bool {
 }
 
 /// For each number of an accepted plan, in order, the bytes that may stand in
-/// its place: the plan read is the same. Numbers up to `most` are tried, in
-/// every length.
+/// its place: the plan read is the same, and so is the mark. Numbers up to
+/// `most` are tried, in every length.
 pub fn at_each_place(bytes: &[u8], most: u32) -> Result<Vec<Vec<Vec<u8>>>, u8> {
-    let plan = read(bytes)?;
+    let read = read_with_mark(bytes)?;
     let numbers: Vec<&[u8]> = bytes.split_inclusive(|&byte| byte < 128).collect();
     let keeps = |place: usize, other: &[u8]| {
         let (before, after) = (&numbers[..place], &numbers[place + 1..]);
         let changed = [before.concat().as_slice(), other, after.concat().as_slice()].concat();
-        read(&changed).as_ref() == Ok(&plan)
+        read_with_mark(&changed).as_ref() == Ok(&read)
     };
     let tried: Vec<Vec<u8>> = (0..=most).flat_map(in_every_length).collect();
     let kept = |place| {
@@ -46,8 +46,9 @@ fn in_every_length(number: u32) -> Vec<Vec<u8>> {
     (1..=NUMBER_BYTES).filter(fits).map(spelling).collect()
 }
 
-/// The shortest spelling of an accepted plan and, since 0 and M+1 are equally
-/// short, the least of the shortest byte by byte. Each place for itself.
+/// The shortest spelling of an accepted plan and, since a blank stay field and
+/// one that is spelt out are equally short, the least of the shortest byte by
+/// byte. Each place for itself.
 pub fn least(bytes: &[u8], most: u32) -> Result<Vec<u8>, u8> {
     let places = at_each_place(bytes, most)?;
     let least = |kept: Vec<Vec<u8>>| {

@@ -2,6 +2,7 @@
 //! evidence, in the lines that it reads, and the lines that it must print.
 
 mod answers;
+mod blanks;
 mod evidence;
 mod operations;
 mod padding;
@@ -32,6 +33,7 @@ pub fn cases() -> String {
     reading::reading(&mut text);
     operations::operations(&mut text);
     plans::plans(&mut text);
+    blanks::blanks(&mut text);
     text.lines
 }
 

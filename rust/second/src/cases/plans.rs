@@ -3,7 +3,7 @@
 use super::evidence::{padded, refused, LOOP, SMALL_LOOP};
 use super::operations::largest;
 use super::Text;
-use crate::model::read_model;
+use crate::model::read_plan;
 use crate::shortest_plan::shortest_plan;
 
 /// A line for each plan, its name and its bytes; and comments.
@@ -59,11 +59,11 @@ pub fn plans(text: &mut Text) {
 
 /// A plan with output that lacks a byte, suffices, and has bytes to spare; a
 /// refused one with none and with long output.
-fn redrawn(text: &mut Text, name: &str, model: &[u8]) {
+pub fn redrawn(text: &mut Text, name: &str, model: &[u8]) {
     text.named(&format!("{name}, redrawn"), model);
-    let lengths = match read_model(model) {
-        Ok(model) => {
-            let needed = shortest_plan(&model).len();
+    let lengths = match read_plan(model) {
+        Ok(reading) => {
+            let needed = shortest_plan(&reading).len();
             vec![needed - 1, needed, needed + 5]
         }
         Err(_) => vec![0, LONG],

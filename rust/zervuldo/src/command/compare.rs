@@ -8,6 +8,7 @@ use crate::json::Json;
 use crate::outcome::{Failure, Outcome, Status};
 use crate::spelling::Spelling;
 use crate::text::counted;
+use second::limits::{MAX_CLOCKS, MAX_LOCATIONS};
 
 pub const COMMAND: Command = Command {
     name: "compare",
@@ -15,8 +16,9 @@ pub const COMMAND: Command = Command {
     details: "They are the same if the proved writer gives one shortest form for both. Where \
               they differ is found by code that is not proved. Clocks, locations and edges \
               are compared in their order, and called by the names in PLAN; edges are \
-              counted from 0. Names and units of text plans are no part of a plan, and are \
-              not compared.",
+              counted from 0. Stay limits are compared as they are read, blank ones by the \
+              plan's mark; plans of two marks differ, even if in nothing else. Names and units \
+              of text plans are no part of a plan, and are not compared.",
     takes: Takes {
         operands: "PLAN OTHER",
         count: 2..=2,
@@ -25,8 +27,9 @@ pub const COMMAND: Command = Command {
     run,
 };
 
-/// So many differences are told in words; more would be read by nobody.
-const MOST_SHOWN: usize = 20;
+/// So many differences are told in words; more would be read by nobody. It is
+/// enough for a plan and its copy with another mark: the mark, and each limit.
+const MOST_SHOWN: usize = 1 + MAX_LOCATIONS * MAX_CLOCKS;
 
 /// Two plans with what is known of them side by side.
 struct Comparison<'a> {

@@ -10,7 +10,8 @@ use plan::print::write_text;
 pub const COMMAND: Command = Command {
     name: "decode",
     summary: "a plan as text, from its bytes",
-    details: "Bytes hold no names: clocks become x, y, z and locations L0, L1 and so on.",
+    details: "Bytes hold no names: clocks become x, y, z and locations L0, L1 and so on. The \
+              mark is told where it is 2, and blank stay limits stay blank.",
     takes: Takes {
         operands: "PLAN",
         count: 1..=1,

@@ -22,7 +22,8 @@ pub const COMMAND: Command = Command {
     name: "draw",
     summary: "a plan as an SVG picture, with its verdict and a trail",
     details: "Without EVIDENCE the trail is ours; with it, that one, once the proved check \
-              has passed it. A safe plan has no trail.",
+              has passed it. A safe plan has no trail. With mark 2 a blank stay limit below \
+              the ceiling is shown, and told apart: (last edge).",
     takes: Takes {
         operands: "PLAN [EVIDENCE]",
         count: 1..=2,

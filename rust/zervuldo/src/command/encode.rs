@@ -9,8 +9,8 @@ use plan::input::plan_in;
 pub const COMMAND: Command = Command {
     name: "encode",
     summary: "the model bytes of a plan, in shortest numbers",
-    details: "Names and real units are no part of them. A stay limit that names the ceiling \
-              comes out as it is; shorten drops it.",
+    details: "Names and real units are no part of them. A stay limit that spells out what a \
+              blank one means comes out as it is; shorten drops it.",
     takes: Takes {
         operands: "PLAN",
         count: 1..=1,

@@ -37,7 +37,10 @@ const FILES: &str = "\
 PLAN, or OTHER, is a plan as text, as a list of numbers or as model bytes; \
 EVIDENCE is bytes or a list of numbers. Which of them is seen from the \
 content. A dash is standard input. Lines of a text plan may say: unit 20 ms, \
-crystal 50 ppm, bit rate 19200; options say it in their place.";
+crystal 50 ppm, bit rate 19200; options say it in their place. The first number \
+of a plan is its mark, 1 or 2; a text has mark 1 unless a line says: mark 2. A \
+blank stay limit is the ceiling with mark 1; with mark 2 that of the last edge \
+to close, or the ceiling where no edge leaves.";
 
 const STATUSES: [(&str, &str); 4] = [
     (

@@ -17,8 +17,10 @@ const CHECK: Opt = Opt {
 pub const COMMAND: Command = Command {
     name: "shorten",
     summary: "a plan in its shortest form, the same bytes for the same plan",
-    details: "The proved writer spells each number in the fewest bytes, and a stay limit that \
-              is the ceiling as 0; the plan stays the same. Bytes come out as bytes, a list \
+    details: "The proved writer spells each number in the fewest bytes, and as 0 a stay limit \
+              that is the default: with mark 1 the ceiling, with mark 2 the greatest high of \
+              the edges that leave the location, or the ceiling where none does. The plan \
+              stays the same, and keeps its mark. Bytes come out as bytes, a list \
               of numbers as a list on one line, without its comments. A text comes out as \
               bytes: its names, units and comments are no part of them. FILE may be PLAN \
               itself, unless that is a text. With --check a text counts as the bytes that \

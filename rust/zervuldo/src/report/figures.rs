@@ -3,7 +3,7 @@
 use super::html::{code, element, paragraph, section, Html};
 use super::trail;
 use crate::facts::{Facts, Finding, Perfect, Safe, Unsafe};
-use crate::told::{example_words, harm_words, perfect_words, safe_words};
+use crate::told::{example_words, harm_words, mark_words, perfect_words, safe_words};
 use crate::units::{drift_words, grouped, margin_words, Window};
 use plan::units::Quantity;
 use plan::Plan;
@@ -25,6 +25,7 @@ pub fn figures(facts: &Facts) -> Html {
         Finding::Safe(safe) => safe_rows(facts, safe),
         Finding::Unsafe(danger) => danger_rows(facts, danger),
     };
+    rows.extend(mark_words(plan).map(|words| ("Mark", words.to_string(), GIVEN)));
     let unit = plan.units.unit.map(|unit| Quantity::Unit.written(unit));
     rows.extend(unit.map(|unit| ("One unit", unit, GIVEN)));
     section("Figures", [table(&rows), missing(plan)])

@@ -18,6 +18,10 @@ pub const LOOP_TRAIL: [u8; 34] = [
     0, 1, 3,
 ];
 
+/// A plan that the mark decides: with mark 1 its forbidden location is entered
+/// late, with mark 2 the last edge out of it has closed by then.
+pub const LATE: [u8; 20] = [1, 1, 2, 2, 2, 0, 0, 0, 1, 0, 0, 1, 0, 2, 2, 1, 0, 1, 0, 1];
+
 pub fn zervuldo() -> Command {
     Command::new(env!("CARGO_BIN_EXE_zervuldo"))
 }

@@ -7,9 +7,8 @@ pub resolve-field-spec : {M : Type 1} → statement M
 resolve-field-spec =
     tie.close
     (tie.spec
-    (λ c. search needs)
-    (λ c. search needs)
-    (λ c. search needs)
     (λ c κs. search needs)
+    (λ c. search needs)
+    (λ c. search needs)
     (λ c. search needs)
     (λ c. simp (c .limit .ensures)))

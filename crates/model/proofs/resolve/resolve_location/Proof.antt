@@ -10,14 +10,14 @@ use Rattle.model.proofs.Each.{each-none, each-more, each-done}
 use Rattle.model.proofs.resolve.resolve_location.Statement.{statement}
 use Rattle.model.proofs.resolve.resolve_location.Tie as tie
 
-abbrev turn : Model → ℕ → ℕ → Model → Model
-turn m l x z = withInvariant z (slot l x) (meantAt m l x)
+abbrev turn : ℕ → Model → ℕ → ℕ → Model → Model
+turn mark m l x z = withInvariant z (slot l x) (meantAt mark m l x)
 
 abbrev Inv-loop : tie.InvT-loop
-Inv-loop m l n u₀ x₀ u x = (x ≤ n) × (u ≡ each x (turn m l) u₀)
+Inv-loop mark m l n u₀ x₀ u x = (x ≤ n) × (u ≡ each x (turn mark m l) u₀)
 
 abbrev μ-loop : tie.MeasureT-loop
-μ-loop m l n u₀ x₀ u x = n - x
+μ-loop mark m l n u₀ x₀ u x = n - x
 
 pub resolve-location-spec : {M : Type 1} → statement M
 resolve-location-spec =
@@ -27,8 +27,10 @@ resolve-location-spec =
     μ-loop
     (λ c. omega arith)
     (λ c. (omega arith, each-none _ _))
-    (λ c κs. omega arith)
+    (λ c κs. let pre = c .before .before .before .pre in (pre .0, pre .1, omega arith))
     (λ c. omega arith)
     (λ c. omega arith)
-    (λ c. (omega arith, c .resolve-field .ensures ∙ each-more (turn (c .before .before .before .before .args .m) _) _ _ _ (c .before .before .loop .inv .1)))
-    (λ c. each-done (turn (c .before .before .before .args .m) _) _ _ _ _ (c .before .loop .inv .1) (omega arith) (omega arith)))
+    (λ c. let s = c .before .before .before .before .args in
+    (omega arith, c .resolve-field .ensures ∙ each-more (turn (s .mark) (s .m) (s .l)) _ _ _ (c .before .before .loop .inv .1)))
+    (λ c. let s = c .before .before .before .args in
+    each-done (turn (s .mark) (s .m) (s .l)) _ _ _ _ (c .before .loop .inv .1) (omega arith) (omega arith)))

@@ -9,10 +9,10 @@ use Rattle.model.proofs.resolve.resolve_model.Statement.{statement}
 use Rattle.model.proofs.resolve.resolve_model.Tie as tie
 
 abbrev Inv-loop : tie.InvT-loop
-Inv-loop m count t₀ l₀ t l = (l ≤ count) × (t ≡ each l (resolvedAt m) t₀)
+Inv-loop mark m count t₀ l₀ t l = (l ≤ count) × (t ≡ each l (resolvedAt mark m) t₀)
 
 abbrev μ-loop : tie.MeasureT-loop
-μ-loop m count t₀ l₀ t l = count - l
+μ-loop mark m count t₀ l₀ t l = count - l
 
 pub resolve-model-spec : {M : Type 1} → statement M
 unfolding resolved
@@ -23,8 +23,10 @@ resolve-model-spec =
     μ-loop
     (λ c. omega arith)
     (λ c. (omega arith, each-none _ _))
-    (λ c κs. omega arith)
+    (λ c κs. (c .before .before .before .pre, omega arith))
     (λ c. omega arith)
     (λ c. omega arith)
-    (λ c. (omega arith, c .resolve-location .ensures ∙ each-more (resolvedAt (c .before .before .before .before .args .m)) _ _ _ (c .before .before .loop .inv .1)))
-    (λ c. each-done (resolvedAt (c .before .before .before .args .m)) _ _ _ _ (c .before .loop .inv .1) (omega arith) (omega arith)))
+    (λ c. let s = c .before .before .before .before .args in
+    (omega arith, c .resolve-location .ensures ∙ each-more (resolvedAt (s .mark) (s .m)) _ _ _ (c .before .before .loop .inv .1)))
+    (λ c. let s = c .before .before .before .args in
+    each-done (resolvedAt (s .mark) (s .m)) _ _ _ _ (c .before .loop .inv .1) (omega arith) (omega arith)))

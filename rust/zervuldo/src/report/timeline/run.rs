@@ -172,10 +172,9 @@ mod tests {
     /// Whether perfect clocks can stay so and leave as the stay says.
     fn is_possible(plan: &Plan, stay: &Stay) -> bool {
         const HAIR: f64 = 1e-9;
-        let limits = &plan.locations[stay.location].stay;
         let clocks = stay.clocks.iter().map(|clock| clock + stay.length);
         clocks.enumerate().all(|(at, clock)| {
-            let limit = limits[at].unwrap_or(plan.ceiling);
+            let limit = plan.limit(stay.location, at);
             let guard = stay.jump.map(|edge| plan.edges[edge].guard[at]);
             let (low, high) = guard.unwrap_or((0, plan.ceiling));
             let most = f64::from(limit.min(high)) + HAIR;
@@ -186,7 +185,7 @@ mod tests {
     #[test]
     fn stays_keep_the_limits() {
         let mut jumps = 0;
-        for kind in ["tiny", "small", "drift", "clocks-3"] {
+        for kind in ["tiny", "small", "drift", "clocks-3", "blank"] {
             for (plan, story) in (0..60).filter_map(|seed| story(kind, seed)) {
                 for piece in pieces(&plan, &story) {
                     let Piece::Stay(stay) = piece else {
