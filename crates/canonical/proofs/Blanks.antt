@@ -7,8 +7,8 @@ use mathlib.Core.Logic.{_↔_}
 use lib.Dec.{eqb}
 use borrow.Author.Tests.{eqb-true, eqb-false, eq-eqb, ne-eqb}
 use Rattle.limits.specs.Limits.{KnownMark}
-use Rattle.stay_limits.specs.Stay.{resolve, leaving}
-use Rattle.stay_limits.proofs.Leaving.{Last, leaving-last, leaving-same}
+use Rattle.stay_limits.specs.Stay.{resolve, lastExit}
+use Rattle.stay_limits.proofs.Exits.{LastExit, exit-last, exit-same}
 use Rattle.model.specs.declared.Model.{Model}
 use Rattle.model.specs.declared.Reading.{Reading}
 use Rattle.model.specs.Model.{sourceOf, highAt}
@@ -20,8 +20,8 @@ pub default-same : (mark : ℕ) (m k : Model) (l x : ℕ) → m .ceiling ≡ k .
     → ((e : ℕ) → e < m .edges → sourceOf m e ≡ sourceOf k e) → ((e : ℕ) → e < m .edges → highAt m e x ≡ highAt k e x)
     → defaultAt mark m l x ≡ defaultAt mark k l x
 default-same mark m k l x c n source high =
-    let e : leaving (sourceOf m) (λ e. highAt m e x) l (m .edges) ≡ leaving (sourceOf k) (λ e. highAt k e x) l (k .edges)
-    = leaving-same _ _ _ _ l (m .edges) source high ∙ ap (leaving (sourceOf k) (λ e. highAt k e x) l) n in
+    let e : lastExit (sourceOf m) (λ e. highAt m e x) l (m .edges) ≡ lastExit (sourceOf k) (λ e. highAt k e x) l (k .edges)
+    = exit-same _ _ _ _ l (m .edges) source high ∙ ap (lastExit (sourceOf k) (λ e. highAt k e x) l) n in
     rw (c, e) refl
 
 -- a high end is found again from one more than it
@@ -33,10 +33,10 @@ module _ (r : Reading) (l x : ℕ) where
   m = r .model
 
   abbrev last : ℕ
-  last = leaving (sourceOf m) (λ e. highAt m e x) l (m .edges)
+  last = lastExit (sourceOf m) (λ e. highAt m e x) l (m .edges)
 
   abbrev LastOf : ℕ → Type 0
-  LastOf = Last (sourceOf m) (λ e. highAt m e x) l (m .edges)
+  LastOf = LastExit (sourceOf m) (λ e. highAt m e x) l (m .edges)
 
   -- in mark 2 the edges decide
   by-edges : r .mark ≡ 2 → defaultAt (r .mark) m l x ≡ resolve (m .ceiling) last
@@ -44,27 +44,27 @@ module _ (r : Reading) (l x : ℕ) where
 
   blank-is : (b : ℕ) → Blank r l x b → defaultAt (r .mark) m l x ≡ b
   blank-is _ (ceiling e) = simp (eq-eqb _ _ e)
-  blank-is _ (none e f) = rw (by-edges e) (by last (leaving-last _ _ l (m .edges)))
+  blank-is _ (none e f) = rw (by-edges e) (by last (exit-last _ _ l (m .edges)))
     where
       by : (g : ℕ) → LastOf g → resolve (m .ceiling) g ≡ m .ceiling
-      by _ (Last.none h) = refl
-      by _ (Last.greatest d p s h) = absurd (f d (p, s))
-  blank-is _ (greatest e d (p, s) f) = rw (by-edges e) (by last (leaving-last _ _ l (m .edges)))
+      by _ (LastExit.none h) = refl
+      by _ (LastExit.greatest d p s h) = absurd (f d (p, s))
+  blank-is _ (greatest e d (p, s) f) = rw (by-edges e) (by last (exit-last _ _ l (m .edges)))
     where
       by : (g : ℕ) → LastOf g → resolve (m .ceiling) g ≡ highAt m d x
-      by _ (Last.none h) = absurd (h d p s)
-      by _ (Last.greatest c q t h) = rw (resolve-high (m .ceiling) (highAt m c x)) (omega (arith, h d p s, f c (q, t)))
+      by _ (LastExit.none h) = absurd (h d p s)
+      by _ (LastExit.greatest c q t h) = rw (resolve-high (m .ceiling) (highAt m c x)) (omega (arith, h d p s, f c (q, t)))
 
   default-blank : KnownMark (r .mark) → Blank r l x (defaultAt (r .mark) m l x)
   default-blank k = mark (eqb (r .mark) 1) refl
     where
       by : r .mark ≡ 2 → (g : ℕ) → LastOf g → Blank r l x (resolve (m .ceiling) g)
-      by e _ (Last.none h) = none e (λ d (p, s). h d p s)
-      by e _ (Last.greatest d p s h) = rw (resolve-high (m .ceiling) (highAt m d x)) (greatest e d (p, s) (λ c (q, t). h c q t))
+      by e _ (LastExit.none h) = none e (λ d (p, s). h d p s)
+      by e _ (LastExit.greatest d p s h) = rw (resolve-high (m .ceiling) (highAt m d x)) (greatest e d (p, s) (λ c (q, t). h c q t))
 
       mark : (t : Bool) → eqb (r .mark) 1 ≡ t → Blank r l x (cond t (m .ceiling) (resolve (m .ceiling) last))
       mark true q = ceiling (eqb-true _ _ q)
-      mark false q = by (omega (arith, eqb-false (r .mark) 1 q)) last (leaving-last _ _ l (m .edges))
+      mark false q = by (omega (arith, eqb-false (r .mark) 1 q)) last (exit-last _ _ l (m .edges))
 
   pub blank-law : KnownMark (r .mark) → (b : ℕ) → Blank r l x b ↔ (defaultAt (r .mark) m l x ≡ b)
   blank-law k b = (blank-is b, λ e. subst (Blank r l x) e (default-blank k))

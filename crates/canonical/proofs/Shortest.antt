@@ -9,6 +9,7 @@ use lib.ListN.{length, length-append}
 use lib.Dec.{eqb}
 use borrow.Author.Tests.{eqb-true, eqb-false}
 use Rattle.number.specs.Number.{spell, spellAll}
+use Rattle.number.specs.Sequence.{SpellsAll}
 use Rattle.number.proofs.Laws.{cond-ind}
 use Rattle.number.proofs.Spelling.{spell-grows, spell-all-few}
 use Rattle.number.proofs.Sequence.{spelled, spelled-shortest, Fit, fit-none, fit-more, fit-append}
@@ -38,38 +39,51 @@ stay-spells r marked l x =
 mask-fits : (n v : ℕ) → n ≤ maxClocks → v < 2 ^ n → v < 2 ^ 21
 mask-fits n v h k = let p : 2 ^ n ≤ 2 ^ maxClocks = pow-le-pow-right (omega arith) h in omega arith
 
-plan-fits : (r : Reading) → Whole r → Fit (planNumbers r)
-unfolding planNumbers numbersOf
-plan-fits r w =
-    let m = r .model in
-    let ok = w .lawful in
-    let g = ok .ranges in
-    fit-more (omega (arith, w .marked)) (fit-more (omega (arith, ok .clocks)) (fit-more (omega (arith, ok .ceiling)) (fit-more (omega (arith, ok .locations))
-    (fit-more (omega (arith, ok .edges)) (fit-more (omega (arith, ok .start, ok .locations))
-    (fit-append (gather (m .locations) (locationNumbers (stayNumbers r) r))
-    (fit-gather (m .locations) _ (λ l h.
-    fit-more (omega (arith, g .kind l)) (fit-gather (m .clocks) _ (λ x k.
-    cond-ind Fit (eqb (limitAt m l x) (defaultAt (r .mark) m l x)) (λ q. fit-more (omega arith) fit-none)
-    (λ q. fit-more (omega (arith, g .invariant (slot l x), ok .ceiling)) fit-none)))))
-    (fit-gather (m .edges) _ (λ e h.
-    fit-more (omega (arith, g .source e, ok .locations)) (fit-more (omega (arith, g .target e, ok .locations))
-    (fit-more (mask-fits (m .clocks) _ (ok .clocks .1) (g .reset e))
-    (fit-gather (m .clocks) _ (λ x k.
-    fit-more (omega (arith, g .lower (slot e x), g .upper (slot e x), ok .ceiling))
-    (fit-more (omega (arith, g .upper (slot e x), ok .ceiling)) fit-none)))))))))))))
+stays-fit : (r : Reading) (l x : ℕ) {vs : List ℕ} → Lawful (r .model) → Stays r l x vs → Fit vs
+stays-fit r l x ok (blank b) = fit-more (omega arith) fit-none
+stays-fit r l x ok written = fit-more (omega (arith, ok .ranges .invariant (slot l x), ok .ceiling)) fit-none
+
+-- any choice of fields that mean the limits
+module _ (r : Reading) (w : Whole r) (stay : ℕ → ℕ → List ℕ)
+    (stays : (l x : ℕ) → l < r .model .locations → x < r .model .clocks → Stays r l x (stay l x)) where
+  numbers-fit : Fit (numbersOf stay r)
+  unfolding numbersOf
+  numbers-fit =
+      let m = r .model in
+      let ok = w .lawful in
+      let g = ok .ranges in
+      fit-more (omega (arith, w .marked)) (fit-more (omega (arith, ok .clocks)) (fit-more (omega (arith, ok .ceiling)) (fit-more (omega (arith, ok .locations))
+      (fit-more (omega (arith, ok .edges)) (fit-more (omega (arith, ok .start, ok .locations))
+      (fit-append (gather (m .locations) (locationNumbers stay r))
+      (fit-gather (m .locations) _ (λ l h.
+      fit-more (omega (arith, g .kind l)) (fit-gather (m .clocks) _ (λ x k. stays-fit r l x ok (stays l x h k)))))
+      (fit-gather (m .edges) _ (λ e h.
+      fit-more (omega (arith, g .source e, ok .locations)) (fit-more (omega (arith, g .target e, ok .locations))
+      (fit-more (mask-fits (m .clocks) _ (ok .clocks .1) (g .reset e))
+      (fit-gather (m .clocks) _ (λ x k.
+      fit-more (omega (arith, g .lower (slot e x), g .upper (slot e x), ok .ceiling))
+      (fit-more (omega (arith, g .upper (slot e x), ok .ceiling)) fit-none)))))))))))))
+
+  pub fields-spelled : SpellsAll (spellAll (numbersOf stay r)) (numbersOf stay r)
+  fields-spelled = spelled (numbersOf stay r) numbers-fit
+
+  pub fields-plan : (bs : List ℕ) → SpellsAll bs (numbersOf stay r) → SpellsPlan bs r
+  fields-plan bs s =
+      record {
+        done = w .done;
+        marked = w .marked;
+        lawful = w .lawful;
+        tidy = w .tidy;
+        stay = stay;
+        stays = stays;
+        bytes = s;
+      }
 
 pub shortest-spells : (r : Reading) → Whole r → SpellsPlan (shortestPlan r) r
 unfolding shortestPlan planNumbers
 shortest-spells r w =
-    record {
-      done = w .done;
-      marked = w .marked;
-      lawful = w .lawful;
-      tidy = w .tidy;
-      stay = stayNumbers r;
-      stays = λ l x h k. stay-spells r (w .marked) l x;
-      bytes = spelled (planNumbers r) (plan-fits r w);
-    }
+    let stays : (l x : ℕ) → l < r .model .locations → x < r .model .clocks → Stays r l x (stayNumbers r l x) = λ l x _ _. stay-spells r (w .marked) l x in
+    fields-plan r w (stayNumbers r) stays (shortestPlan r) (fields-spelled r w (stayNumbers r) stays)
 
 -- "Reading the output yields the model read from the input", and of every whole reading
 pub reads-back : (r : Reading) → Whole r → readModel (shortestPlan r) ≡ r

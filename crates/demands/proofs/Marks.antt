@@ -1,24 +1,23 @@
 -- Request (c) of 02: "Blank stay limits." What the plan writer does with them stands in Plans.
 use mathlib.Core.Path.{_≡_, refl, sym, ap, subst}
-use mathlib.Core.Logic.{_⊎_, inl, inr, _↔_}
+use mathlib.Core.Logic.{inl, inr, _↔_}
 use mathlib.Core.List.{List, [], _∷_, map}
-use mathlib.Core.Bool.{cond}
-use Prim.Native.Nat.{ℕ, _+_}
+use Prim.Native.Nat.{ℕ, _+_, _<_}
 use native.Mathlib.Omega.{arith}
-use lib.Dec.{eqb}
 use borrow.Author.Tests.{ne-eqb}
 use Rattle.limits.specs.Limits.{KnownMark}
+use Rattle.number.specs.Number.{spellAll}
 use Rattle.number.specs.Sequence.{SpellsAll}
 use Rattle.model.specs.declared.Reading.{Reading}
 use Rattle.model.specs.Model.{limitAt}
 use Rattle.model.specs.Accept.{readModel, Whole}
 use Rattle.model.proofs.Accepted.{accepted-resets}
 use Rattle.canonical.specs.Blank.{Blank, ceiling, none, greatest}
-use Rattle.canonical.specs.Canonical.{numbersOf, Stays, blank, written, SpellsPlan, shortestPlan}
+use Rattle.canonical.specs.Canonical.{numbersOf, Stays, blank, written, shortestPlan}
 use Rattle.canonical.specs.Same.{SameContent}
 use Rattle.canonical.proofs.Plans.{accept-law, accepted-plan, accepted-whole}
-use Rattle.canonical.proofs.Shortest.{reads-back, content-equal}
-use Rattle.demands.specs.Marks.{withMark, movedStay}
+use Rattle.canonical.proofs.Shortest.{fields-spelled, fields-plan, reads-back, content-equal}
+use Rattle.demands.specs.Marks.{FirstStays, withMark, movedField, movedStay}
 use Rattle.demands.specs.SameAnswers.{SameTimed}
 use Rattle.demands.proofs.SameAnswers.{same-timed}
 
@@ -32,16 +31,14 @@ mark-1-blank r l x b one = (to, λ e. subst (Blank r l x) (sym e) (ceiling one))
     to (none two _) = refl
     to (greatest two e h f) = absurd (omega arith)
 
--- 01: "0 means the ceiling, any other s means limit s-1"
-pub mark-1-stays : (r : Reading) (l x : ℕ) (vs : List ℕ) → r .mark ≡ 1
-    → Stays r l x vs ↔ (((vs ≡ 0 ∷ []) × (limitAt (r .model) l x ≡ r .model .ceiling)) ⊎ (vs ≡ (limitAt (r .model) l x + 1) ∷ []))
+pub mark-1-stays : (r : Reading) (l x : ℕ) (vs : List ℕ) → r .mark ≡ 1 → Stays r l x vs ↔ FirstStays r l x vs
 mark-1-stays r l x vs one = (to, from)
   where
-    to : {ws : List ℕ} → Stays r l x ws → ((ws ≡ 0 ∷ []) × (limitAt (r .model) l x ≡ r .model .ceiling)) ⊎ (ws ≡ (limitAt (r .model) l x + 1) ∷ [])
+    to : {ws : List ℕ} → Stays r l x ws → FirstStays r l x ws
     to (blank b) = inl (refl, mark-1-blank r l x _ one .0 b)
     to written = inr refl
 
-    from : ((vs ≡ 0 ∷ []) × (limitAt (r .model) l x ≡ r .model .ceiling)) ⊎ (vs ≡ (limitAt (r .model) l x + 1) ∷ []) → Stays r l x vs
+    from : FirstStays r l x vs → Stays r l x vs
     from (inl (e, h)) = subst (Stays r l x) (sym e) (blank (mark-1-blank r l x _ one .1 h))
     from (inr e) = subst (Stays r l x) (sym e) written
 
@@ -73,8 +70,7 @@ module _ (bytes : List ℕ) (e : readModel bytes .refusal ≡ 0) where
 -- ---- "Whoever relied on the ceiling and moves to mark 2 writes M+1."
 
 -- a field of mark 1, with M+1 for a blank, means the limit in every mark
-moved-stays : (r : Reading) (k l x : ℕ) → r .mark ≡ 1 → {vs : List ℕ} → Stays r l x vs
-    → Stays (withMark k r) l x (map (λ s. cond (eqb s 0) (r .model .ceiling + 1) s) vs)
+moved-stays : (r : Reading) (k l x : ℕ) → r .mark ≡ 1 → {vs : List ℕ} → Stays r l x vs → Stays (withMark k r) l x (map (movedField (r .model .ceiling)) vs)
 moved-stays r k l x one (blank b) =
     let e : limitAt (r .model) l x ≡ r .model .ceiling = mark-1-blank r l x _ one .0 b in
     subst (λ (v : ℕ). Stays (withMark k r) l x ((v + 1) ∷ [])) e written
@@ -82,20 +78,29 @@ moved-stays r k l x one written =
     let v = limitAt (r .model) l x + 1 in
     subst (λ (w : ℕ). Stays (withMark k r) l x (w ∷ [])) (sym (simp (ne-eqb v 0 (λ z. omega arith)) refl)) written
 
-pub moved-reads : (bytes cs : List ℕ) (e : readModel bytes .refusal ≡ 0) → readModel bytes .mark ≡ 1
-    → SpellsAll cs (numbersOf (movedStay (readModel bytes) (accepted-plan bytes e .stay)) (withMark 2 (readModel bytes)))
-    → (readModel cs ≡ withMark 2 (readModel bytes)) × SameTimed cs bytes
-moved-reads bytes cs e one s =
-    let r = readModel bytes in
-    let p = accepted-plan bytes e in
-    let spells : SpellsPlan cs (withMark 2 r) = record {
-      done = e;
-      marked = (omega arith, omega arith);
-      lawful = p .lawful;
-      tidy = p .tidy;
-      stay = movedStay r (p .stay);
-      stays = λ l x h k. moved-stays r 2 l x one (p .stays l x h k);
-      bytes = s;
-    } in
-    let back = accept-law cs (withMark 2 r) .1 (spells, accepted-resets bytes e) .0 in
-    (back, same-timed cs bytes (ap (λ (t : Reading). t .refusal) back) (ap (λ (t : Reading). t .model) back))
+module _ (bytes : List ℕ) (e : readModel bytes .refusal ≡ 0) (one : readModel bytes .mark ≡ 1) where
+  abbrev r : Reading
+  r = readModel bytes
+
+  abbrev fields : ℕ → ℕ → List ℕ
+  fields = movedStay r (accepted-plan bytes e .stay)
+
+  -- the plan's numbers with mark 2, and M+1 for each blank
+  abbrev pub moved : List ℕ
+  moved = numbersOf fields (withMark 2 r)
+
+  whole : Whole (withMark 2 r)
+  whole = remarked r (accepted-whole bytes e) 2 (omega arith, omega arith)
+
+  moved-fields : (l x : ℕ) → l < r .model .locations → x < r .model .clocks → Stays (withMark 2 r) l x (fields l x)
+  moved-fields l x h k = moved-stays r 2 l x one (accepted-plan bytes e .stays l x h k)
+
+  -- some bytes spell them,
+  pub moved-spelled : SpellsAll (spellAll moved) moved
+  moved-spelled = fields-spelled (withMark 2 r) whole fields moved-fields
+
+  -- and all that do read as the same model
+  pub moved-reads : (cs : List ℕ) → SpellsAll cs moved → (readModel cs ≡ withMark 2 r) × SameTimed cs bytes
+  moved-reads cs s =
+      let back = accept-law cs (withMark 2 r) .1 (fields-plan (withMark 2 r) whole fields moved-fields cs s, accepted-resets bytes e) .0 in
+      (back, same-timed cs bytes (ap (λ (t : Reading). t .refusal) back) (ap (λ (t : Reading). t .model) back))

@@ -1,7 +1,7 @@
 -- Beyond request (c): tighter stay limits mark no further state. So a plan whose mark becomes 2, and nothing else, is accepted as it was, and safe if it was.
 use mathlib.Core.Path.{_≡_, refl, sym, ap, ap₂, subst, _∙_}
 use mathlib.Core.Bool.{Bool, true, false, cond}
-use mathlib.Core.List.{List, [], _∷_}
+use mathlib.Core.List.{List, [], _∷_, _++_}
 use mathlib.Core.Logic.{inl}
 use Prim.Native.Nat.{ℕ, zero, suc, _-_, _≤_, _<_}
 use native.Mathlib.Decide.{decLt}
@@ -9,7 +9,9 @@ use native.Mathlib.Omega.{arith}
 use lib.ListN.{getD}
 use lib.Dec.{eqb}
 use borrow.Author.Tests.{eq-eqb}
-use Rattle.number.specs.Sequence.{SpellsAll}
+use Rattle.number.specs.Number.{spell}
+use Rattle.number.specs.Sequence.{SpelledBy, SpellsAll}
+use Rattle.number.proofs.Spelling.{spell-spells}
 use Rattle.number.proofs.Sequence.{plain, reads-law, spelled-once}
 use Rattle.theory.specs.Automaton.{Automaton, Edge}
 use Rattle.theory.specs.Below.{tab}
@@ -148,9 +150,13 @@ module _ (d : Draft) (g : InRange d) (one : d .mark ≡ 1) where
 
 -- ---- bytes that differ in the mark alone
 
-abbrev rest : List ℕ → List ℕ
-rest [] = []
-rest (v ∷ vs) = vs
+-- there are such bytes, whatever the first number was
+pub remark : {bytes ns : List ℕ} {v : ℕ} → SpellsAll bytes (v ∷ ns) → (bytes′ : List ℕ) × SpellsAll bytes′ (2 ∷ ns)
+remark (SpelledBy.more {bs = rest} _ s) = (spell 2 ++ rest, SpelledBy.more (spell-spells 2 (omega arith)) s)
+
+abbrev others : List ℕ → List ℕ
+others [] = []
+others (v ∷ vs) = vs
 
 module _ (bytes bytes′ ns : List ℕ) (spelt : SpellsAll bytes (1 ∷ ns)) (spelt′ : SpellsAll bytes′ (2 ∷ ns)) (e : readModel bytes .refusal ≡ 0) where
   read : Drafted bytes (parseModel bytes)
@@ -170,7 +176,7 @@ module _ (bytes bytes′ ns : List ℕ) (spelt : SpellsAll bytes (1 ∷ ns)) (sp
 
   parsed′ : parseModel bytes′ ≡ readOf 2 (drawn (inMark2 d))
   parsed′ =
-      let z : draftNumbers (inMark2 d) ≡ 2 ∷ ns = ap (λ (vs : List ℕ). 2 ∷ rest vs) numbers in
+      let z : draftNumbers (inMark2 d) ≡ 2 ∷ ns = ap (λ (vs : List ℕ). 2 ∷ others vs) numbers in
       draft-read bytes′ (inMark2 d) (range2 d (read .range) one)
       (reads-law plain bytes′ 0 (draftNumbers (inMark2 d)) (omega arith) .1 (subst (SpellsAll bytes′) (sym z) spelt′))
 

@@ -4,7 +4,7 @@ use mathlib.Core.Path.{_≡_, refl}
 use mathlib.Core.List.{List, [], _∷_, map}
 use lib.ListN.{take}
 use Rattle.number.specs.Number.{readNumber}
-use Rattle.stay_limits.specs.Stay.{leaving}
+use Rattle.stay_limits.specs.Stay.{lastExit}
 use Rattle.model.specs.Each.{each}
 use Rattle.model.specs.Parse.{fieldAt, kindAt, invariantAt, endsAt, guardAt, resolved, parseBody, parseCounts, parseModel}
 use Rattle.model.specs.Cycle.{markEdge, roundOf, survivors, hasCycle, unreset}
@@ -67,7 +67,7 @@ answers :
     (map (λ (bs : List ℕ). readModel bs .refusal) cases ≡ 0 ∷ 0 ∷ 1 ∷ 2 ∷ 0 ∷ 3 ∷ 0 ∷ 4 ∷ 5 ∷ 6 ∷ 7 ∷ 0 ∷ 3 ∷ 3 ∷ [])
     × (take 12 (readModel plan .model .invariant) ≡ 2 ∷ 2 ∷ 0 ∷ 2 ∷ 2 ∷ 0 ∷ 2 ∷ 2 ∷ 0 ∷ 2 ∷ 2 ∷ 0 ∷ [])
     × (take 12 (readModel plan .model .lower) ≡ 1 ∷ 1 ∷ 0 ∷ 0 ∷ 0 ∷ 0 ∷ 0 ∷ 2 ∷ 0 ∷ 0 ∷ 2 ∷ 0 ∷ [])
-unfolding cases plan leaving readModel parseModel parseCounts parseBody each kindAt invariantAt endsAt guardAt resolved fieldAt readNumber unreset hasCycle survivors roundOf markEdge
+unfolding cases plan lastExit readModel parseModel parseCounts parseBody each kindAt invariantAt endsAt guardAt resolved fieldAt readNumber unreset hasCycle survivors roundOf markEdge
 answers = (refl, refl, refl)
 
 -- mark 1 means the ceiling; mark 2 the greatest high end clock by clock, of edges that never open and of loops too, and the ceiling where none leaves
@@ -75,5 +75,5 @@ blanked :
     (limits (blanks 1) ≡ 3 ∷ 3 ∷ 0 ∷ 3 ∷ 3 ∷ 0 ∷ 3 ∷ 3 ∷ 0 ∷ [])
     × (limits (blanks 2) ≡ 2 ∷ 2 ∷ 0 ∷ 3 ∷ 3 ∷ 0 ∷ 3 ∷ 1 ∷ 0 ∷ [])
     × (readModel (blanks 1) .mark ≡ 1) × (readModel (blanks 2) .mark ≡ 2) × (readModel (blanks 3) .mark ≡ 0)
-unfolding blanks limits leaving readModel parseModel parseCounts parseBody each kindAt invariantAt endsAt guardAt resolved fieldAt readNumber unreset hasCycle survivors roundOf markEdge
+unfolding blanks limits lastExit readModel parseModel parseCounts parseBody each kindAt invariantAt endsAt guardAt resolved fieldAt readNumber unreset hasCycle survivors roundOf markEdge
 blanked = (refl, refl, refl, refl, refl)

@@ -10,7 +10,7 @@ use Rattle.number.proofs.Laws.{cond-ind}
 use Rattle.model.specs.declared.Model.{Model}
 use Rattle.limits.specs.Limits.{maxClocks, maxLocations, maxEdges}
 use Rattle.stay_limits.specs.Stay.{resolve}
-use Rattle.stay_limits.proofs.Leaving.{leaving-most}
+use Rattle.stay_limits.proofs.Exits.{exit-most}
 use Rattle.model.specs.Model.{slot, sourceOf, highAt, Lawful, Tidy}
 use Rattle.model.specs.Parse.{defaultAt, limitOf, meantAt, resolved, withArrays}
 use Rattle.model.proofs.Arrays.{zeros, row-length, row-in, row-out, row-at, grid, grid-length, grid-in, grid-out, grid-at}
@@ -23,7 +23,7 @@ resolve-most m v h = cond-ind (λ (k : ℕ). k ≤ m) (eqb v 0) (λ q. omega ari
 pub default-most : (mark : ℕ) (m : Model) (l x : ℕ) → ((e : ℕ) → highAt m e x ≤ m .ceiling) → defaultAt mark m l x ≤ m .ceiling
 default-most mark m l x h =
     cond-ind (λ (k : ℕ). k ≤ m .ceiling) (eqb mark 1) (λ q. omega arith)
-    (λ q. resolve-most (m .ceiling) _ (leaving-most (sourceOf m) (λ e. highAt m e x) l (m .ceiling) (m .edges) (λ e _. h e)))
+    (λ q. resolve-most (m .ceiling) _ (exit-most (sourceOf m) (λ e. highAt m e x) l (m .ceiling) (m .edges) (λ e _. h e)))
 
 limit-most : (mark : ℕ) (m : Model) (l x v : ℕ) → ((e : ℕ) → highAt m e x ≤ m .ceiling) → v ≤ m .ceiling + 1 → limitOf mark m l x v ≤ m .ceiling
 limit-most mark m l x v h k =

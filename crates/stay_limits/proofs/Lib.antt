@@ -1,2 +1,2 @@
 -- What is known of the edges that leave a location.
-pub mod Leaving
+pub mod Exits

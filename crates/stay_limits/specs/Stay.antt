@@ -11,13 +11,13 @@ abbrev pub resolve : ℕ → ℕ → ℕ
 resolve M s = cond (eqb s 0) M (s - 1)
 
 -- 02: "the greatest high end for that clock among the edges leaving the location". One more than that, of the first k edges; 0 where none of them leaves.
-unfoldable pub leaving : (ℕ → ℕ) → (ℕ → ℕ) → ℕ → ℕ → ℕ
-leaving source high l zero = 0
-leaving source high l (suc e) = cond (eqb (source e) l) (max (leaving source high l e) (high e + 1)) (leaving source high l e)
+unfoldable pub lastExit : (ℕ → ℕ) → (ℕ → ℕ) → ℕ → ℕ → ℕ
+lastExit source high l zero = 0
+lastExit source high l (suc e) = cond (eqb (source e) l) (max (lastExit source high l e) (high e + 1)) (lastExit source high l e)
 
 -- "Mark 1 keeps its meaning"; in mark 2, the greatest high end "or the ceiling where no edge leaves"
 abbrev pub blankLimit : ℕ → ℕ → (ℕ → ℕ) → (ℕ → ℕ) → ℕ → ℕ → ℕ
-blankLimit mark M source high l edges = cond (eqb mark 1) M (resolve M (leaving source high l edges))
+blankLimit mark M source high l edges = cond (eqb mark 1) M (resolve M (lastExit source high l edges))
 
 -- ---- the edges in arrays
 

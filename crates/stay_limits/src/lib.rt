@@ -4,7 +4,7 @@ ghost use mathlib.Core.Path.{_≡_};
 ghost use mathlib.Core.Bool.{cond};
 ghost use Prim.Native.Nat.{_+_, _<_, _≤_, max};
 ghost use Rattle.limits.specs.Limits.{maxClocks, maxCeiling, maxEdges};
-ghost use Rattle.stay_limits.specs.Stay.{sourceIn, highIn, Highs, resolve, leaving, blankLimit};
+ghost use Rattle.stay_limits.specs.Stay.{sourceIn, highIn, Highs, resolve, lastExit, blankLimit};
 use limits::MAX_CLOCKS;
 use limits::MAX_EDGES;
 
@@ -32,7 +32,7 @@ fn with_edge(leaves: bool, high: u8, last: u8) -> u8
 fn last_exit(edges: u8, source: [u8; MAX_EDGES], upper: [u8; HIGHS], l: usize, x: usize) -> u8
     requires { ⌜ (edges ≤ maxEdges) × (x < maxClocks) ⌝ }
     requires { ⌜ Highs upper ⌝ }
-    ensures { λ r. ⌜ r ≡ leaving (sourceIn source) (highIn upper x) l edges ⌝ }
+    ensures { λ r. ⌜ r ≡ lastExit (sourceIn source) (highIn upper x) l edges ⌝ }
 {
     let count = edges as usize;
     let mut last = 0;

@@ -3,13 +3,13 @@ use borrow.Author.Needs.{needs}
 use native.Mathlib.Omega.{arith}
 use Prim.Native.Nat.{_≤_, _-_}
 use mathlib.Core.Path.{_≡_, ap, _∙_}
-use Rattle.stay_limits.specs.Stay.{sourceIn, highIn, leaving}
-use Rattle.stay_limits.proofs.Leaving.{leaving-none, leaving-next}
+use Rattle.stay_limits.specs.Stay.{sourceIn, highIn, lastExit}
+use Rattle.stay_limits.proofs.Exits.{exit-none, exit-next}
 use Rattle.stay_limits.proofs.last_exit.Statement.{statement}
 use Rattle.stay_limits.proofs.last_exit.Tie as tie
 
 abbrev Inv-loop : tie.InvT-loop
-Inv-loop edges l x source upper count last₀ e₀ last e = (e ≤ count) × (last ≡ leaving (sourceIn source) (highIn upper x) l e)
+Inv-loop edges l x source upper count last₀ e₀ last e = (e ≤ count) × (last ≡ lastExit (sourceIn source) (highIn upper x) l e)
 
 abbrev μ-loop : tie.MeasureT-loop
 μ-loop edges l x source upper count last₀ e₀ last e = count - e
@@ -20,7 +20,7 @@ last-exit-spec =
     (tie.spec
     Inv-loop
     μ-loop
-    (λ c. (omega arith, leaving-none _ _ _))
+    (λ c. (omega arith, exit-none _ _ _))
     (λ c. omega arith)
     (λ c. search needs)
     (λ c. omega arith)
@@ -30,5 +30,5 @@ last-exit-spec =
     (λ c. omega arith)
     (λ c. omega arith)
     (λ c. let s = c .before .before .before .args in
-    (omega arith, simp (c .before .before .loop .inv .1) at (c .with-edge .ensures) ∙ leaving-next (sourceIn (s .t2)) (highIn (s .t3) (s .x)) (s .l) _))
-    (λ c. let e : c .before .loop .e ≡ c .before .before .args .edges = omega arith in c .before .loop .inv .1 ∙ ap (leaving _ _ _) e))
+    (omega arith, simp (c .before .before .loop .inv .1) at (c .with-edge .ensures) ∙ exit-next (sourceIn (s .t2)) (highIn (s .t3) (s .x)) (s .l) _))
+    (λ c. let e : c .before .loop .e ≡ c .before .before .args .edges = omega arith in c .before .loop .inv .1 ∙ ap (lastExit _ _ _) e))

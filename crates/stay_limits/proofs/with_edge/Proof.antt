@@ -1,6 +1,6 @@
 -- A test for each way out.
 use borrow.Author.Needs.{needs}
-use Rattle.stay_limits.proofs.Leaving.{later, sooner}
+use Rattle.stay_limits.proofs.Exits.{later, sooner}
 use Rattle.stay_limits.proofs.with_edge.Statement.{statement}
 use Rattle.stay_limits.proofs.with_edge.Tie as tie
 
