@@ -1,8 +1,10 @@
 // Cases of the public operations as data. On standard input a line that begins with '-' announces a plan, whose bytes stand on the next line, set apart
 // by commas as 01 writes them. Each line after it is a case of that plan: `judge`, `marks`, `write`, `plan`, `sheet_margin` and `harm` with the lengths of
-// what they are lent, `margin`, or else the bytes of a piece of evidence, an empty line too. A line that begins with '#' is a comment. All but the plans'
-// bytes is written back, a case with its answer behind it: 01's number and values; how many numbers of each scratch slice are zero then; and the output.
+// what they are lent, `margin`, `rounds`, or else the bytes of a piece of evidence, an empty line too. A line that begins with '#' is a comment. All but
+// the plans' bytes is written back, a case with its answer behind it: 01's number and values; how many numbers of each scratch slice are zero then; and
+// the output. `rounds` is no public operation: its values are the rounds of the marking and the marked states.
 mod answers;
+mod counting;
 mod lent;
 mod operation;
 
@@ -20,6 +22,7 @@ use answers::of_tolerance;
 use answers::of_written;
 use answers::say;
 use answers::show_answer;
+use counting::rounds;
 use lent::Output;
 use lent::Scratch;
 use lent::length;
@@ -118,6 +121,7 @@ fn answer(plan: &[u8], line: &[u8]) {
         Operation::Margin => show_answer(of_tolerance(drift::margin(plan))),
         Operation::Check => check(plan, line),
         Operation::Plan => shorten(plan, line),
+        Operation::Rounds => show_answer(rounds(plan)),
         Operation::Judge | Operation::SheetMargin | Operation::Harm => {
             run(operation, plan, line, 1)
         }

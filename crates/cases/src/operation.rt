@@ -10,6 +10,7 @@ pub enum Operation {
     SheetMargin,
     Harm,
     Plan,
+    Rounds,
     Check,
 }
 
@@ -30,6 +31,9 @@ pub fn operation_of(line: &[u8]) -> Operation {
     }
     if first == b'p' {
         return Operation::Plan;
+    }
+    if first == b'r' {
+        return Operation::Rounds;
     }
     if first != b'm' {
         return Operation::Check;

@@ -24,3 +24,5 @@ pub mod Padding
 pub mod Marks
 -- Beyond it: a plan whose mark becomes 2 stays safe.
 pub mod Narrower
+-- Request (d) of 02: marking goes on after it is done.
+pub mod Rounds

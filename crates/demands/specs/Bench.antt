@@ -4,9 +4,13 @@ use mathlib.Core.Bool.{Bool, true, false, _&&_}
 use mathlib.Core.List.{List, [], _∷_}
 use lib.ListN.{length, take}
 use lib.Dec.{eqb}
+use Rattle.theory.specs.Below.{count}
 use Rattle.theory.specs.Lists.{same}
 use Rattle.theory.specs.Region.{Region, clock, regions, lawful, corners, successor}
 use Rattle.theory.specs.StateGraph.{sameRegion}
+use Rattle.theory.specs.Marked.{marks}
+use Rattle.theory.specs.Rounds.{rounds}
+use Rattle.graph.specs.Plan.{systemOfModel}
 use Rattle.evidence.specs.Ours.{ourEvidence}
 use Rattle.call.specs.Call.{modelOf}
 use Rattle.op_check.specs.Check.{checkAnswer}
@@ -22,6 +26,8 @@ pub data Case : Type 0 where
   check-gives : List ℕ → List ℕ → ℕ → List ℕ → Case
   -- a model: our evidence
   ours-is : List ℕ → List ℕ → Case
+  -- a model: so many rounds, so many marked states
+  rounds-are : List ℕ → ℕ → ℕ → Case
 
 -- points in the same order
 unfoldable pub samePoints : List (List ℕ) → List (List ℕ) → Bool
@@ -41,10 +47,21 @@ holds (time-gives n M xs ys) = sameRegion (successor xs) ys && lawful n M ys
 holds (check-gives model shown r vs) =
     eqb (checkAnswer model shown buffers .number) r && same (checkAnswer model shown buffers .values) vs
 holds (ours-is model shown) = same (ourEvidence (modelOf model)) shown
+holds (rounds-are model r n) =
+    let Y = systemOfModel (modelOf model) in
+    eqb (rounds Y) r && eqb (count (Y .size) (marks Y)) n
 
 -- "model 1,1,1,1,0,0,0,0", with its kind
 abbrev pub tiny : ℕ → List ℕ
 tiny kind = 1 ∷ 1 ∷ 1 ∷ 1 ∷ 0 ∷ 0 ∷ kind ∷ 0 ∷ []
+
+-- the same with a stay limit of 0
+abbrev pub still : List ℕ
+still = 1 ∷ 1 ∷ 1 ∷ 1 ∷ 0 ∷ 0 ∷ 0 ∷ 1 ∷ []
+
+-- one location at ceiling 2, and an edge that resets its clock at any time
+abbrev pub poll : List ℕ
+poll = 1 ∷ 1 ∷ 2 ∷ 1 ∷ 1 ∷ 0 ∷ 0 ∷ 0 ∷ 0 ∷ 0 ∷ 1 ∷ 0 ∷ 2 ∷ []
 
 -- "Loop plan"
 abbrev pub loopBytes : List ℕ
@@ -105,4 +122,13 @@ paddedBench =
     ∷ check-gives (tiny 0) (1 ∷ 5 ∷ 3 ∷ 1 ∷ 128 ∷ 0 ∷ []) 6 []
     -- "models may still be padded"
     ∷ check-gives (129 ∷ 0 ∷ 1 ∷ 1 ∷ 1 ∷ 0 ∷ 0 ∷ 1 ∷ 0 ∷ []) (2 ∷ 0 ∷ []) 0 (2 ∷ [])
+    ∷ []
+
+-- 02 (d): "at most as many rounds as there are marked states". The last round, which adds nothing, counts; the bound is met where each round goes over
+-- one state.
+unfoldable pub roundsBench : List Case
+roundsBench =
+    rounds-are (tiny 0) 3 3
+    ∷ rounds-are still 1 1
+    ∷ rounds-are poll 4 5
     ∷ []

@@ -10,3 +10,5 @@ pub mod SameAnswers
 pub mod Padding
 -- Request (c) of 02: a plan in another mark.
 pub mod Marks
+-- Request (d) of 02: the rounds of a plan's marking.
+pub mod Rounds

@@ -1,18 +1,21 @@
 -- The system of a lawful model keeps the laws that the theory of evidence asks for. Its marked numbers are the marked states, and a set of
 -- numbers that is closed under time and jump covers slight drift. A face of an allowed state is allowed.
-use Prim.Native.Nat.{ℕ, _<_}
+use Prim.Native.Nat.{ℕ, _+_, _<_}
 use mathlib.Core.Path.{_≡_, subst}
 use mathlib.Core.Bool.{Bool, true, false}
 use mathlib.Core.Logic.{_↔_}
 use mathlib.Core.List.{List}
 use Rattle.theory.specs.System.{Laws}
 use Rattle.theory.specs.Labels.{LabelledLaws}
-use Rattle.theory.specs.Marked.{unsafe}
+use Rattle.theory.specs.Marked.{step, marks, unsafe}
+use Rattle.theory.specs.Levels.{mark}
+use Rattle.theory.specs.Rounds.{MarkedAfter, NewAfter, Rounds, rounds, StepOn, startOn}
 use Rattle.theory.specs.Sheet.{sheetTest}
 use Rattle.theory.specs.Automaton.{Steady}
 use Rattle.theory.specs.Region.{Region, fits, face}
 use Rattle.theory.specs.RegionGraph.{Allowed, Marked, ForbiddenMarked}
 use Rattle.theory.specs.StateGraph.{locationOf, regionOf, numberOf, allowedState}
+use Rattle.theory.proofs.Marked.{marks-law}
 use Rattle.theory.proofs.Region.{fits-law}
 use Rattle.theory.proofs.RegionSteps.{face-fits}
 use Rattle.theory.proofs.StateGraph.{allowed-state-law, region-lawful}
@@ -24,6 +27,7 @@ use Rattle.graph.proofs.Plan.{capped, within}
 use Rattle.theory.specs.Marked as marked
 use Rattle.theory.proofs.StateGraph as state-graph
 use Rattle.theory.proofs.StateMarked as state-marked
+use Rattle.theory.proofs.StateRounds as state-rounds
 
 module _ (m : Model) (ok : Lawful m) where
   pub system-laws : Laws (systemOfModel m)
@@ -37,10 +41,30 @@ module _ (m : Model) (ok : Lawful m) where
       → marked.MarkedIn (systemOfModel m) p ↔ Marked (automatonOf m) (locationOf (automatonOf m) p) (regionOf (automatonOf m) p)
   marked-law = state-marked.marked-law (automatonOf m) (m .locations) (within m ok) (capped m ok)
 
+  pub marks-states : (p : ℕ) → p < states m
+      → (marks (systemOfModel m) p ≡ true) ↔ Marked (automatonOf m) (locationOf (automatonOf m) p) (regionOf (automatonOf m) p)
+  marks-states p h =
+      let n = marks-law (systemOfModel m) system-laws p in
+      let s = marked-law p h in
+      (λ e. s .0 (n .0 e), λ c. n .1 (s .1 c))
+
   -- each marked state is allowed, in a location, and its number is marked
   pub marked-numbers : {l : ℕ} {xs : Region} → Marked (automatonOf m) l xs
       → (l < m .locations) × Allowed (automatonOf m) l xs × marked.MarkedIn (systemOfModel m) (numberOf (automatonOf m) l xs)
   marked-numbers = state-marked.marked-numbers (automatonOf m) (m .locations) (within m ok) (capped m ok)
+
+  -- the number of rounds that mark them; a state is new after as many as its distance
+  pub rounds-law : (r : ℕ) → Rounds (StepOn (automatonOf m)) (startOn (automatonOf m)) r ↔ (r ≡ rounds (systemOfModel m))
+  rounds-law = state-rounds.rounds-states (automatonOf m) (m .locations) (within m ok) (capped m ok)
+
+  pub rounds-mark : (r : ℕ) → Rounds (StepOn (automatonOf m)) (startOn (automatonOf m)) r → (l : ℕ) (xs : Region)
+      → Marked (automatonOf m) l xs ↔ MarkedAfter (StepOn (automatonOf m)) (startOn (automatonOf m)) r (l, xs)
+  rounds-mark = state-rounds.rounds-mark (automatonOf m) (m .locations) (within m ok) (capped m ok)
+
+  pub new-law : (k p : ℕ) → p < states m
+      → NewAfter (StepOn (automatonOf m)) (startOn (automatonOf m)) k (locationOf (automatonOf m) p, regionOf (automatonOf m) p)
+      ↔ (mark (systemOfModel m .size) (step (systemOfModel m)) (systemOfModel m .start) p ≡ k + 1)
+  new-law = state-rounds.new-states (automatonOf m) (m .locations) (within m ok) (capped m ok)
 
   -- the verdict: unsafe just if a marked state is in a forbidden location, safe just if none is
   pub unsafe-states : (unsafe (systemOfModel m) ≡ true) ↔ ForbiddenMarked (automatonOf m)

@@ -11,17 +11,18 @@ use Rattle.theory.specs.Below.{count}
 use Rattle.theory.specs.System.{System, Laws, onClosedWalk}
 use Rattle.theory.specs.Marked.{StepIn, by-flow, by-face, by-touch, begin, step, marks}
 use Rattle.theory.specs.Levels.{distanceTo}
+use Rattle.theory.specs.Rounds.{rounds}
 use Rattle.theory.proofs.Below.{and-intro, and-left, and-right}
 use Rattle.theory.proofs.System.{start-below, flow-inside, closed-walk-is, is-closed-walk}
 use Rattle.theory.proofs.Marked.{step-is, is-step, step-inside, marked-on, marked-allowed}
 use Rattle.theory.proofs.Levels.{far-walk, mark-marks}
 use Rattle.search.specs.Queue.{reachedCount}
 use Rattle.search.proofs.Count.{count-same}
-use Rattle.search.proofs.Rounds.{searched-all, searched-marks}
+use Rattle.search.proofs.Rounds.{searched-all, searched-marks, searched-rounds}
 use Rattle.marking.specs.Tables.{Tables, RegionTables, Successor, to-successor, to-face, to-touched, Distances, Found}
 use Rattle.marking.proofs.Corners.{location-states}
 use Rattle.marking.proofs.Leading.{location-below}
-use Rattle.search.specs.Rounds as rounds
+use Rattle.search.specs.Rounds as levels
 
 module _ (Y : System) (L : Laws Y) {start R : ℕ} {first targets shapes heights : List ℕ} (Z : RegionTables (Y .size) R shapes heights)
     (T : Tables Y start R first targets shapes heights) where
@@ -60,7 +61,7 @@ module _ (Y : System) (L : Laws Y) {start R : ℕ} {first targets shapes heights
       let (l, w, _) = far-walk (Y .size) (step Y) (step-inside Y L) (Y .start) (start-below Y L) p b in
       marked-allowed Y L (marked-on Y L begin w)
 
-  pub steps-agree : rounds.Agrees (Y .size) (step Y) start (Successor R first targets shapes heights)
+  pub steps-agree : levels.Agrees (Y .size) (step Y) start (Successor R first targets shapes heights)
   steps-agree = rw (← T .starts) (record {
     inside = step-inside Y L;
     begins = start-below Y L;
@@ -75,16 +76,17 @@ count-marks Y L distance D =
 
 -- no state at x: all are found
 module _ {start R x lo hi : ℕ} {first targets shapes heights distance queue : List ℕ} (Z : RegionTables (length distance) R shapes heights)
-    (I : rounds.Searched (Successor R first targets shapes heights) start x lo hi distance queue) (over : hi ≤ lo) where
-  found : (Y : System) → Laws Y → Y .size ≡ length distance → Tables Y start R first targets shapes heights → Distances Y distance
-  found Y L e T = record {
-    long = sym e;
-    is = rw (← e, ← T .starts) at (searched-marks I over (step Y) (rw (← e) (steps-agree Y L (rw (← e) at Z) T)));
-  }
+    (I : levels.Searched (Successor R first targets shapes heights) start x lo hi distance queue) (over : hi ≤ lo) where
+  module _ (Y : System) (L : Laws Y) (e : Y .size ≡ length distance) (T : Tables Y start R first targets shapes heights) where
+    agree : levels.Agrees (length distance) (step Y) start (Successor R first targets shapes heights)
+    agree = rw (← e) (steps-agree Y L (rw (← e) at Z) T)
+
+    found : Distances Y distance
+    found = record { long = sym e; is = rw (← e, ← T .starts) at (searched-marks I over (step Y) agree) }
+
+    counted : x - 1 ≡ rounds Y
+    unfolding rounds
+    counted = omega (arith, rw (← e, ← T .starts) at (searched-rounds I over (step Y) agree))
 
   pub searched-end : Found start R first targets shapes heights distance queue (x - 1)
-  searched-end = record {
-    order = rw (I .fits .many) (searched-all I over);
-    distances = found;
-    few = λ Y L e T. omega (arith, count-marks Y L distance (found Y L e T), I .fits .many, I .early);
-  }
+  searched-end = record { order = rw (I .fits .many) (searched-all I over); distances = found; counted = counted }

@@ -8,11 +8,11 @@ use lib.ListN.{length, getD}
 use lib.Dec.{eqb}
 use Rattle.limits.specs.Limits.{maxRegions, maxStates, slotCount, pointCount}
 use Rattle.shapes.specs.Layout.{shapesEnd, rowsIn, facesIn, cornersIn, linksIn, headsIn, ShareCorner}
-use Rattle.theory.specs.Below.{count}
 use Rattle.theory.specs.System.{System, Laws, onClosedWalk}
-use Rattle.theory.specs.Marked.{step, marks}
+use Rattle.theory.specs.Marked.{step}
 use Rattle.theory.specs.Adjacency.{Adjacent, Holds, Chains, Rows}
 use Rattle.theory.specs.Levels.{mark}
+use Rattle.theory.specs.Rounds.{rounds}
 use Rattle.search.specs.Queue.{reachedCount, ByLevel}
 
 -- ---- what the tables say of a system
@@ -76,11 +76,11 @@ pub record Distances (Y : System) (distance : List ℕ) : Type 0 where
   pub long : length distance ≡ Y .size
   pub is : (p : ℕ) → p < Y .size → getD distance p 0 ≡ mark (Y .size) (step Y) (Y .start) p
 
--- of every system that the tables tell of: its distances, in so many rounds; and `queue` lists the marked states level by level, each once
-pub record Found (start R : ℕ) (first targets shapes heights distance queue : List ℕ) (rounds : ℕ) : Type 0 where
+-- of every system that the tables tell of: its distances, and how many rounds there are; and `queue` lists the marked states level by level, each once
+pub record Found (start R : ℕ) (first targets shapes heights distance queue : List ℕ) (r : ℕ) : Type 0 where
   pub order : ByLevel distance queue (reachedCount distance)
   pub distances : (Y : System) → Laws Y → Y .size ≡ length distance → Tables Y start R first targets shapes heights → Distances Y distance
-  pub few : (Y : System) → Laws Y → Y .size ≡ length distance → Tables Y start R first targets shapes heights → rounds ≤ count (Y .size) (marks Y)
+  pub counted : (Y : System) → Laws Y → Y .size ≡ length distance → Tables Y start R first targets shapes heights → r ≡ rounds Y
 
 -- 01: "kind (0 ordinary, 1 forbidden)", by location
 abbrev pub Forbids : System → ℕ → List ℕ → Type 0

@@ -1,17 +1,20 @@
 -- The rounds: the first one, the next, and what is found when no state is left.
 use mathlib.Core.Path.{_≡_, ap, _∙_}
 use mathlib.Core.Bool.{Bool, true, false}
-use mathlib.Core.Logic.{inl, inr, ⊎-elim}
+use mathlib.Core.Logic.{_⊎_, inl, inr, ⊎-elim}
 use mathlib.Core.List.{List}
-use Prim.Native.Nat.{ℕ, _+_, _≤_, _<_}
+use Prim.Native.Nat.{ℕ, _+_, _-_, _≤_, _<_}
 use native.Mathlib.Omega.{arith}
+use native.Mathlib.Nat.{le-antisymm}
 use native.Mathlib.Decide.{decLt}
 use lib.ListN.{length, getD, set}
 use lib.Seq.{getD-set-same, getD-set-other}
 use lib.Dec.{ltb}
 use borrow.Author.Tests.{le-ltb}
 use Rattle.limits.specs.Limits.{maxStates}
+use Rattle.theory.specs.Below.{top}
 use Rattle.theory.specs.Levels.{mark, FoundBelow, Grown}
+use Rattle.theory.proofs.Below.{top-ge, top-at}
 use Rattle.theory.proofs.Levels.{mark-in, mark-out, upto-first, upto-at, upto-next, upto-end}
 use Rattle.search.specs.Queue.{Queued, ByLevel, TakesAll, LeadsFrom}
 use Rattle.search.specs.Rounds.{Agrees, Searched}
@@ -49,6 +52,7 @@ module _ (Lead : ℕ → ℕ → Type 0) (level queue : List ℕ) (start : ℕ) 
     ends = omega arith;
     low = λ i l. absurd (omega arith);
     now = λ i k l. one i l;
+    past = λ i e. absurd (omega arith);
     upto = λ r A.
         upto-first (length (set level start 1)) r (A .inside) start (A .begins) (λ p. getD (set level start 1) p 0)
         (getD-set-same level start 1 0 b) (λ p l n. getD-set-other level start p 1 0 n ∙ zero p);
@@ -127,6 +131,7 @@ module _ {Lead : ℕ → ℕ → Type 0} {start x lo hi : ℕ} {level queue : Li
       ends = A .takes .more;
       low = low;
       now = A .takes .fresh;
+      past = λ i e. omega (arith, kept i (omega arith), I .now i (omega arith) (omega arith));
       upto = λ r G. rw (A .takes .long) (round-upto r (rw (A .takes .long) at G));
     }
 
@@ -136,19 +141,44 @@ module _ {Lead : ℕ → ℕ → Type 0} {start x lo hi : ℕ} {level queue : Li
     none : (p : ℕ) → p < length level → getD level p 0 ≡ x → ⊥
     none p b e = let (i, k, m, u) = place-of p b e in omega arith
 
+    below-level : (p : ℕ) → p < length level → getD level p 0 < x
+    below-level p b = by (decLt (getD level p 0) x)
+      where
+        by : Dec (getD level p 0 < x) → getD level p 0 < x
+        by (yes h) = h
+        by (no h) = absurd (none p b (omega (arith, level-most p b)))
+
     pub searched-all : ByLevel level queue hi
     searched-all = record {
       fits = I .fits;
-      bounded = λ p b. let n = none p b in let l = level-most p b in omega (arith, I .early, I .ends, lower p b (decLt (getD level p 0) x));
+      bounded = λ p b. omega (arith, I .early, I .ends, below-level p b);
       sorted = I .sorted;
     }
-      where
-        lower : (p : ℕ) → p < length level → Dec (getD level p 0 < x) → getD level p 0 < x
-        lower p b (yes h) = h
-        lower p b (no h) = absurd (none p b (omega (arith, level-most p b)))
 
-    pub searched-marks : (r : ℕ → ℕ → Bool) → Agrees (length level) r start Lead → (p : ℕ) → p < length level → getD level p 0 ≡ mark (length level) r start p
-    searched-marks r G = upto-end (length level) r (G .inside) start (G .begins) x (λ p. getD level p 0) (I .some) (I .upto r G) none
+    module _ (r : ℕ → ℕ → Bool) (G : Agrees (length level) r start Lead) where
+      pub searched-marks : (p : ℕ) → p < length level → getD level p 0 ≡ mark (length level) r start p
+      searched-marks = upto-end (length level) r (G .inside) start (G .begins) x (λ p. getD level p 0) (I .some) (I .upto r G) none
+
+      -- each round but this one went over a level, and there are no others
+      pub searched-rounds : x ≡ top (length level) (mark (length level) r start) + 1
+      searched-rounds = le-antisymm (most (decLt 0 lo)) (least (top-at (length level) (mark (length level) r start)))
+        where
+          most : Dec (0 < lo) → x ≤ top (length level) (mark (length level) r start) + 1
+          most (no h) = omega (arith, I .early)
+          most (yes h) =
+              let b = I .fits .below (lo - 1) (omega (arith, I .ends)) in
+              omega (
+                arith,
+                I .past (lo - 1) (omega arith),
+                searched-marks (getD queue (lo - 1) 0) b,
+                top-ge (length level) (mark (length level) r start) (getD queue (lo - 1) 0) b,
+              )
+
+          least : (top (length level) (mark (length level) r start) ≡ 0)
+              ⊎ ((p : ℕ) × (p < length level) × (top (length level) (mark (length level) r start) ≡ mark (length level) r start p))
+              → top (length level) (mark (length level) r start) + 1 ≤ x
+          least (inl z) = omega (arith, I .some)
+          least (inr (p, b, e)) = omega (arith, searched-marks p b, below-level p b)
 
 -- all distances are found
 pub upto-all : {S : ℕ} {r : ℕ → ℕ → Bool} {a : ℕ} {f : ℕ → ℕ} → ((p : ℕ) → p < S → f p ≡ mark S r a p) → FoundBelow S r a S f

@@ -24,4 +24,6 @@ pub record Searched (Lead : ℕ → ℕ → Type 0) (start x lo hi : ℕ) (level
   pub ends : lo ≤ hi
   pub low : (i : ℕ) → i < lo → getD level (getD queue i 0) 0 < x
   pub now : (i : ℕ) → lo ≤ i → i < hi → getD level (getD queue i 0) 0 ≡ x
+  -- the round before this one went over the level before this one
+  pub past : (i : ℕ) → i + 1 ≡ lo → getD level (getD queue i 0) 0 + 1 ≡ x
   pub upto : (r : ℕ → ℕ → Bool) → Agrees (length level) r start Lead → FoundBelow (length level) r start x (λ p. getD level p 0)

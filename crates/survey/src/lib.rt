@@ -5,12 +5,14 @@ ghost use Prim.Native.Nat.{_≤_};
 ghost use lib.ListN.{length};
 ghost use Rattle.limits.specs.Limits.{smallRegions};
 ghost use Rattle.model.specs.Model.{Lawful};
+ghost use Rattle.theory.specs.Rounds.{rounds};
+ghost use Rattle.graph.specs.Plan.{systemOfModel};
 ghost use Rattle.graph.specs.States.{Listed, states};
 ghost use Rattle.successors.specs.Flow.{FlowLists};
 ghost use Rattle.region_corners.specs.Shapes.{Linked};
 ghost use Rattle.tables.specs.Tables.{Room};
 ghost use Rattle.call.specs.Scratch.{Scratch};
-ghost use Rattle.survey.specs.Surveyed.{Surveyed, Levelled};
+ghost use Rattle.survey.specs.Surveyed.{Levelled};
 use limits::MAX_LOCATIONS;
 use limits::MAX_REGIONS;
 use limits::MAX_STATES;
@@ -26,8 +28,8 @@ use model::Model;
 use shapes::MAX_SHAPES;
 use shapes::SMALL_SHAPES;
 
-// Closed walks and heights into `heights`, distances into `distance`, the marked states level by level into `queue`; `spare` is left with numbers of
-// the search.
+// Closed walks and heights into `heights`, distances into `distance`, the marked states level by level into `queue`; the number of rounds. `spare` is
+// left with numbers of the search.
 pub fn search(
     m: Model,
     first: &[u32],
@@ -37,10 +39,10 @@ pub fn search(
     distance: &mut [Word],
     queue: &mut [Word],
     spare: &mut [Word],
-)
+) -> Word
     requires { ⌜ Lawful m × FlowLists m (now first) (now targets) × Linked (m .clocks) (m .ceiling) (now shapes) ⌝ }
     requires { ⌜ Scratch (states m) (now heights) (now distance) (now queue) (now spare) ⌝ }
-    ensures { λ _. ⌜ Levelled m (now (heights .exit)) (now (distance .exit)) (now (queue .exit)) ⌝ }
+    ensures { λ r. ⌜ Levelled m (now (heights .exit)) (now (distance .exit)) (now (queue .exit)) × (r ≡ rounds (systemOfModel m)) ⌝ }
 {
     let s = heights.len();
     component::components(first, targets, heights, distance, queue, spare, s);
@@ -58,7 +60,7 @@ pub fn search(
         distance,
         queue,
         &mut visited[..flags],
-    );
+    )
 }
 
 // The same with tables lent to be filled.
@@ -73,14 +75,14 @@ fn fill_and_search(
     distance: &mut [Word],
     queue: &mut [Word],
     spare: &mut [Word],
-)
+) -> Word
     requires { ⌜ Lawful m × Listed m (now table) × Room m (now allowed) (now first) (now targets) (now shapes) ⌝ }
     requires { ⌜ Scratch (states m) (now heights) (now distance) (now queue) (now spare) ⌝ }
-    ensures { λ _. ⌜ Surveyed m (now (heights .exit)) (now (distance .exit)) ⌝ }
+    ensures { λ r. ⌜ Levelled m (now (heights .exit)) (now (distance .exit)) (now (queue .exit)) × (r ≡ rounds (systemOfModel m)) ⌝ }
 {
     tables::fill_tables(m, table, allowed, first, targets, shapes);
     region_corners::link_corners(table.len(), shapes);
-    search(m, first, targets, shapes, heights, distance, queue, spare);
+    search(m, first, targets, shapes, heights, distance, queue, spare)
 }
 
 // With tables of its own, for any plan.
@@ -91,9 +93,9 @@ fn survey_large(
     distance: &mut [Word],
     queue: &mut [Word],
     spare: &mut [Word],
-)
+) -> Word
     requires { ⌜ Lawful m × Listed m (now table) × Scratch (states m) (now heights) (now distance) (now queue) (now spare) ⌝ }
-    ensures { λ _. ⌜ Surveyed m (now (heights .exit)) (now (distance .exit)) ⌝ }
+    ensures { λ r. ⌜ Levelled m (now (heights .exit)) (now (distance .exit)) (now (queue .exit)) × (r ≡ rounds (systemOfModel m)) ⌝ }
 {
     let mut allowed = [0u8; MAX_STATES];
     let mut first = [0u32; MAX_STATES + 1];
@@ -113,7 +115,7 @@ fn survey_large(
         distance,
         queue,
         spare,
-    );
+    )
 }
 
 // The same for a small plan: the smaller tables are sooner made.
@@ -124,10 +126,10 @@ fn survey_small(
     distance: &mut [Word],
     queue: &mut [Word],
     spare: &mut [Word],
-)
+) -> Word
     requires { ⌜ Lawful m × Listed m (now table) × Scratch (states m) (now heights) (now distance) (now queue) (now spare) ⌝ }
     requires { ⌜ length (now table) ≤ smallRegions ⌝ }
-    ensures { λ _. ⌜ Surveyed m (now (heights .exit)) (now (distance .exit)) ⌝ }
+    ensures { λ r. ⌜ Levelled m (now (heights .exit)) (now (distance .exit)) (now (queue .exit)) × (r ≡ rounds (systemOfModel m)) ⌝ }
 {
     let mut allowed = [0u8; SMALL_STATES];
     let mut first = [0u32; SMALL_STATES + 1];
@@ -147,26 +149,25 @@ fn survey_small(
         distance,
         queue,
         spare,
-    );
+    )
 }
 
-// Closed walks and heights of all states of a model into `heights`, distances from the start into `distance`. What the four slices held before does not
-// matter; `queue` and `spare` are left with numbers of the search.
+// Closed walks and heights of all states of a model into `heights`, distances from the start into `distance`, the marked states level by level into
+// `queue`; the number of rounds. What the four slices held before does not matter; `spare` is left with numbers of the search.
 pub fn survey(
     m: Model,
     heights: &mut [Word],
     distance: &mut [Word],
     queue: &mut [Word],
     spare: &mut [Word],
-)
+) -> Word
     requires { ⌜ Lawful m × Scratch (states m) (now heights) (now distance) (now queue) (now spare) ⌝ }
-    ensures { λ _. ⌜ Surveyed m (now (heights .exit)) (now (distance .exit)) ⌝ }
+    ensures { λ r. ⌜ Levelled m (now (heights .exit)) (now (distance .exit)) (now (queue .exit)) × (r ≡ rounds (systemOfModel m)) ⌝ }
 {
     let mut table = [0u32; MAX_REGIONS];
     let r = region_table::select(m.clocks, m.ceiling, &mut table);
     if r <= SMALL_REGIONS {
-        survey_small(m, &table[..r], heights, distance, queue, spare);
-    } else {
-        survey_large(m, &table[..r], heights, distance, queue, spare);
+        return survey_small(m, &table[..r], heights, distance, queue, spare);
     }
+    survey_large(m, &table[..r], heights, distance, queue, spare)
 }

@@ -11,6 +11,8 @@ use Rattle.theory.specs.Below.{any, all, least, top, tab}
 use Rattle.theory.specs.Walk.{exact, within, dist, dist⁺, greedy}
 use Rattle.theory.specs.System.{System, Laws, reach, onClosedWalk}
 use Rattle.theory.specs.Marked.{step, marks}
+use Rattle.theory.specs.Levels.{distanceTo, mark}
+use Rattle.theory.specs.Rounds.{rounds}
 use Rattle.theory.specs.Height.{under, chain, height}
 use Rattle.theory.specs.Sheet.{keeps, sheetTest, number, ourSheet}
 use Rattle.theory.specs.Trail.{trailSteps, trailStates}
@@ -72,6 +74,11 @@ line-trail = refl
 line-trail-passes : passes (lineLabels true) [] ≡ true
 unfolding passes replays replayEnd
 line-trail-passes = refl
+
+-- 02 (d): a round for each of its three states
+line-rounds : rounds (line false) ≡ 3
+unfolding rounds top mark distanceTo dist least exact any step onClosedWalk reach within
+line-rounds = refl
 
 -- with kind 1 no sheet passes, with kind 0 not the trail
 line-no-sheet : sheetTest (line true) (5 ∷ 3 ∷ 1 ∷ []) ≡ false

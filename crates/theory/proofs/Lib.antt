@@ -69,6 +69,9 @@ pub mod Rows
 pub mod Chains
 -- Rounds find the distances; the marks and our trail's steps from them.
 pub mod Levels
+-- 02 (d): how many rounds there are, and that they are no more than the marked states.
+pub mod Rounds
+pub mod StateRounds
 -- The nodes of the shortest walks, and the least of these walks; closed walks by the same search.
 pub mod Guide
 pub mod Return

@@ -64,7 +64,7 @@ module _ (m : Automaton) (locations : ℕ) (W : Within m locations) (kept : Capp
   -- ---- the marked set
 
   -- a step on numbers is one on states
-  step-states : {p q : ℕ} → marked.StepIn (systemOf m locations) p q → Step m (locationOf m p) (regionOf m p) (locationOf m q) (regionOf m q)
+  pub step-states : {p q : ℕ} → marked.StepIn (systemOf m locations) p q → Step m (locationOf m p) (regionOf m p) (locationOf m q) (regionOf m q)
   unfolding systemOf
   step-states {p} {q} (marked.by-flow e) = Step.flow (flow-is m locations p q e .2)
   step-states {p} {q} (marked.by-face e) =
@@ -86,7 +86,7 @@ module _ (m : Automaton) (locations : ℕ) (W : Within m locations) (kept : Capp
   marked-states (marked.onward c t) = Marked.onward (marked-states c) (step-states t)
 
   -- and the other way
-  step-numbers : {l k : ℕ} {xs ys : Region} → l < locations → Step m l xs k ys
+  pub step-numbers : {l k : ℕ} {xs ys : Region} → l < locations → Step m l xs k ys
       → (k < locations) × Allowed m k ys × marked.StepIn (systemOf m locations) (numberOf m l xs) (numberOf m k ys)
   unfolding systemOf
   step-numbers b (Step.flow f) = (flow-target m locations W b f, flow-allowed m locations W f .1, marked.by-flow (is-flow m locations W b f))

@@ -44,6 +44,8 @@ pub mod Sharp
 -- Distances from a node, as rounds find them; the nodes of the shortest walks.
 pub mod Levels
 pub mod Guide
+-- 02 (d): the rounds of the marking.
+pub mod Rounds
 -- ---- lists of numbers as code holds them
 
 -- Successors of nodes, and slots by what they hold.

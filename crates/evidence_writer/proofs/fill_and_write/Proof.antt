@@ -42,7 +42,7 @@ write-found-requires c κs =
       start .pre .0 .1,
       tables .by-state .flow,
       linked (table-long m ok _ (start .pre .0 .1) ∙ regions-are m ok) (tables .by-region) (c .before .before .before .before .before .before .before .before .before .before .before .before .before .before .before .before .before .before .before .before .before .before .before .before .before .before .link-corners .ensures),
-      c .before .before .before .before .before .before .before .before .before .before .before .before .before .before .before .before .search .ensures,
+      c .before .before .before .before .before .before .before .before .before .before .before .before .before .before .before .before .search .ensures .0,
       kept .1 .1 .1 .1 .1 .1 .0 ∙ start .pre .1 .third,
       kept .1 .1 .1 .1 .1 .1 .1 .0 ∙ start .pre .1 .fourth,
     )

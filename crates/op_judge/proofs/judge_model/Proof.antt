@@ -9,7 +9,7 @@ survey-requires : tie.Need-survey-requires
 survey-requires c κs = c .before .before .before .before .before .before .before .before .pre
 
 verdict-of-requires : tie.Need-verdict-of-requires
-verdict-of-requires c κs = (c .before .before .before .before .before .before .before .before .before .before .before .before .before .before .before .before .before .before .pre .0, c .before .before .before .before .before .before .before .before .before .survey .ensures .distances)
+verdict-of-requires c κs = (c .before .before .before .before .before .before .before .before .before .before .before .before .before .before .before .before .before .before .pre .0, c .before .before .before .before .before .before .before .before .before .survey .ensures .0 .surveyed .distances)
 
 clear-all-requires : tie.Need-clear-all-requires
 clear-all-requires c κs = search needs

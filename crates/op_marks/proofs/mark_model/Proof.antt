@@ -11,7 +11,7 @@ survey-requires c κs = c .before .before .before .before .before .before .befor
 put-marks-requires : tie.Need-put-marks-requires
 put-marks-requires c κs =
     let pre = c .before .before .before .before .before .before .before .before .before .before .before .before .before .before .before .before .before .before .before .before .pre in
-    (pre .0 .0, c .before .before .before .before .before .before .before .before .before .before .survey .ensures .distances, pre .1)
+    (pre .0 .0, c .before .before .before .before .before .before .before .before .before .before .survey .ensures .0 .surveyed .distances, pre .1)
 
 clear-all-requires : tie.Need-clear-all-requires
 clear-all-requires c κs = search needs

@@ -33,7 +33,7 @@ outlook-found-requires c κs =
     let ok = start .pre .0 .0 in
     let tables = c .before .before .before .before .before .before .before .before .before .before .before .before .before .before .before .before .before .before .before .before .before .before .before .before .before .before .before .before .before .before .before .before .before .before .before .before .fill-tables .ensures in
     let kept = c .before .before .before .before .before .before .before .before .before .before .before .before .before .before .before .before .search .kept in
-    (ok, start .pre .0 .1, tables .by-state, linked (table-long m ok _ (start .pre .0 .1) ∙ regions-are m ok) (tables .by-region) (c .before .before .before .before .before .before .before .before .before .before .before .before .before .before .before .before .before .before .before .before .before .before .before .before .before .before .link-corners .ensures), c .before .before .before .before .before .before .before .before .before .before .before .before .before .before .before .before .search .ensures, kept .1 .1 .1 .1 .1 .1 .0 ∙ start .pre .1 .third, kept .1 .1 .1 .1 .1 .1 .1 .0 ∙ start .pre .1 .fourth)
+    (ok, start .pre .0 .1, tables .by-state, linked (table-long m ok _ (start .pre .0 .1) ∙ regions-are m ok) (tables .by-region) (c .before .before .before .before .before .before .before .before .before .before .before .before .before .before .before .before .before .before .before .before .before .before .before .before .before .before .link-corners .ensures), c .before .before .before .before .before .before .before .before .before .before .before .before .before .before .before .before .search .ensures .0, kept .1 .1 .1 .1 .1 .1 .0 ∙ start .pre .1 .third, kept .1 .1 .1 .1 .1 .1 .1 .0 ∙ start .pre .1 .fourth)
 
 same-length : tie.Need-same-length
 same-length c =

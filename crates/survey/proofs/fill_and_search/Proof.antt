@@ -52,7 +52,7 @@ same-length-8 : tie.Need-same-length-8
 same-length-8 c = search needs
 
 returns : tie.Need-returns
-returns c = c .before .before .before .before .before .before .before .before .search .ensures .surveyed
+returns c = c .before .before .before .before .before .before .before .before .search .ensures
 
 pub fill-and-search-spec : {M : Type 1} → statement M
 fill-and-search-spec =

@@ -110,16 +110,15 @@ returns c =
     let marks = subst (λ (n : ℕ). Marks (start .args .first .now) (start .args .targets .now) n (found .last .1 .1 .0)) (start .pre .1 .first) (found .ensures) in
     let hs = heights-of m ok _ _ flow (found .last .1 .1 .0) (found .kept .1 .1 .0 ∙ start .pre .1 .first) marks in
     let searched = c .before .before .before .before .before .distances .ensures in
-    record {
-      surveyed =
-          record {
-            heights = hs;
-            distances = searched .distances (systemOfModel m) (system-laws m ok) (size-states m ∙ sym (c .before .before .before .before .before .distances .kept .1 .1 .1 .1 .1 .1 .0 ∙ found .kept .1 .1 .1 .0 ∙ start .pre .1 .second))
-                (rw (c .before .before .before .before .before .before .before .before .before .before .from-byte2 .ensures)
-                (tables-by m ok _ _ flow _ (found .last .1 .1 .0) (start .pre .0 .2) _ (r .ensures ∙ c .before .before .before .before .before .before .before .before .before .before .before .before .count .ensures) hs));
-          };
-      order = searched .order;
-    }
+    let size = size-states m ∙ sym (c .before .before .before .before .before .distances .kept .1 .1 .1 .1 .1 .1 .0 ∙ found .kept .1 .1 .1 .0 ∙ start .pre .1 .second) in
+    let tables = rw (c .before .before .before .before .before .before .before .before .before .before .from-byte2 .ensures)
+        (tables-by m ok _ _ flow _ (found .last .1 .1 .0) (start .pre .0 .2) _ (r .ensures ∙ c .before .before .before .before .before .before .before .before .before .before .before .before .count .ensures) hs) in (
+      record {
+        surveyed = record { heights = hs; distances = searched .distances (systemOfModel m) (system-laws m ok) size tables };
+        order = searched .order;
+      },
+      searched .counted (systemOfModel m) (system-laws m ok) size tables,
+    )
 
 pub search-spec : {M : Type 1} → statement M
 search-spec =
