@@ -7,13 +7,14 @@ use mathlib.Core.Bool.{Bool, true, false}
 use mathlib.Core.Logic.{_↔_}
 use mathlib.Core.List.{List}
 use lib.ListN.{length}
-use Rattle.graph.proofs.Plan.{start-at, some-regions}
+use Rattle.graph.proofs.Plan.{start-at, size-states, some-regions}
 use Rattle.limits.specs.Limits.{maxStates, pointCount}
 use Rattle.shapes.specs.Layout.{cornersIn, ShareCorner}
 use Rattle.shapes.proofs.Parts.{corners-long}
 use Rattle.theory.specs.Below.{bit}
 use Rattle.theory.specs.System.{onClosedWalk}
 use Rattle.theory.specs.Height.{height}
+use Rattle.theory.specs.Rounds.{rounds}
 use Rattle.theory.proofs.Rows.{holds-rows}
 use Rattle.theory.specs.Region.{face, shares, regions}
 use Rattle.theory.specs.StateGraph.{regionCount, locationOf, regionOf, allowedState, beside, systemOf}
@@ -29,7 +30,7 @@ use Rattle.successors.specs.Flow.{regionsIn, FlowLists}
 use Rattle.successors.proofs.Room.{regions-limit, states-limit, steps-limit}
 use Rattle.region_corners.specs.Faces.{faceOf}
 use Rattle.region_corners.specs.Shapes.{Linked}
-use Rattle.survey.specs.Surveyed.{Heights}
+use Rattle.survey.specs.Surveyed.{Heights, Levelled}
 use Rattle.tables.proofs.Lent.{regions-are}
 use Rattle.component.specs.Marks as component
 use Rattle.marking.specs.Tables as marking
@@ -177,5 +178,14 @@ module _ (m : Model) (ok : Lawful m) where
             (start-short (regionsIn m) (regions-are m ok) (some-regions m), g, marking-shape h, record { locations = m .locations; states = refl; spots = i })
 
         -- what it finds
-        pub tables-by : Heights m heights → marking.Tables (systemOfModel m) (m .start * r) r first targets shapes heights
-        tables-by H = rw count-is (marking-tables H)
+        pub levelled-by : Heights m heights → (start : ℕ) → start ≡ m .start * r → (distance queue : List ℕ) (n : ℕ) → length distance ≡ states m
+            → marking.Found start r first targets shapes heights distance queue n → Levelled m heights distance queue × (n ≡ rounds (systemOfModel m))
+        levelled-by H start s distance queue n long found =
+            let tables : marking.Tables (systemOfModel m) start r first targets shapes heights = rw (s, count-is) (marking-tables H) in
+            let size = size-states m ∙ sym long in (
+              record {
+                surveyed = record { heights = H; distances = found .distances (systemOfModel m) (system-laws m ok) size tables };
+                order = found .order;
+              },
+              found .counted (systemOfModel m) (system-laws m ok) size tables,
+            )

@@ -10,7 +10,7 @@ use Rattle.graph.proofs.Models.{system-laws}
 use Rattle.graph.proofs.States.{clocks-of, ceiling-of}
 use Rattle.component.specs.Marks.{Marks}
 use Rattle.tables.proofs.Lent.{prefix-long}
-use Rattle.survey.proofs.Tables.{start-product, heights-of, asked, tables-by, component-shape}
+use Rattle.survey.proofs.Tables.{start-product, heights-of, asked, levelled-by, component-shape}
 use Rattle.survey.proofs.search.Statement.{statement}
 use Rattle.survey.proofs.search.Tie as tie
 
@@ -109,16 +109,10 @@ returns c =
     let r = c .before .before .before .before .before .before .before .before .before .before .before .from-short in
     let marks = subst (λ (n : ℕ). Marks (start .args .first .now) (start .args .targets .now) n (found .last .1 .1 .0)) (start .pre .1 .first) (found .ensures) in
     let hs = heights-of m ok _ _ flow (found .last .1 .1 .0) (found .kept .1 .1 .0 ∙ start .pre .1 .first) marks in
-    let searched = c .before .before .before .before .before .distances .ensures in
-    let size = size-states m ∙ sym (c .before .before .before .before .before .distances .kept .1 .1 .1 .1 .1 .1 .0 ∙ found .kept .1 .1 .1 .0 ∙ start .pre .1 .second) in
-    let tables = rw (c .before .before .before .before .before .before .before .before .before .before .from-byte2 .ensures)
-        (tables-by m ok _ _ flow _ (found .last .1 .1 .0) (start .pre .0 .2) _ (r .ensures ∙ c .before .before .before .before .before .before .before .before .before .before .before .before .count .ensures) hs) in (
-      record {
-        surveyed = record { heights = hs; distances = searched .distances (systemOfModel m) (system-laws m ok) size tables };
-        order = searched .order;
-      },
-      searched .counted (systemOfModel m) (system-laws m ok) size tables,
-    )
+    let searched = c .before .before .before .before .before .distances in
+    levelled-by m ok _ _ flow _ (found .last .1 .1 .0) (start .pre .0 .2) _ (r .ensures ∙ c .before .before .before .before .before .before .before .before .before .before .before .before .count .ensures) hs
+    _ (rw (c .before .before .before .before .before .before .before .before .before .before .from-byte2 .ensures) refl) _ _ _
+    (searched .kept .1 .1 .1 .1 .1 .1 .0 ∙ found .kept .1 .1 .1 .0 ∙ start .pre .1 .second) (searched .ensures)
 
 pub search-spec : {M : Type 1} → statement M
 search-spec =

@@ -25,20 +25,6 @@ survey-small-requires c κs =
     let s = c .before .before .before .before .before .before .before .select in
     ((start .pre .0, front-selected _ _ _ _ _ (s .ensures .0) (s .ensures .1 .0), start .pre .1), rw (← front-length _ _ _ _ _ (s .ensures .0) (s .ensures .1 .0)) (c .before .before .before .before .before .if1 .taken))
 
-array-share-prefix-table-2 : tie.Need-array-share-prefix-table-2
-array-share-prefix-table-2 c = search needs
-
-slice-aggregate-survey-large : tie.Need-slice-aggregate-survey-large
-slice-aggregate-survey-large c =
-    let s = c .before .before .before .select in
-    front-length _ _ _ _ _ (s .ensures .0) (s .ensures .1 .0)
-
-survey-large-requires : tie.Need-survey-large-requires
-survey-large-requires c κs =
-    let start = c .before .before .before .before .before .before .before .before .before .before .before .before .before in
-    let s = c .before .before .before .before .before .before .before .select in
-    (start .pre .0, front-selected _ _ _ _ _ (s .ensures .0) (s .ensures .1 .0), start .pre .1)
-
 same-length : tie.Need-same-length
 same-length c = search needs
 
@@ -53,6 +39,20 @@ same-length-4 c = search needs
 
 returns : tie.Need-returns
 returns c = search needs
+
+array-share-prefix-table-2 : tie.Need-array-share-prefix-table-2
+array-share-prefix-table-2 c = search needs
+
+slice-aggregate-survey-large : tie.Need-slice-aggregate-survey-large
+slice-aggregate-survey-large c =
+    let s = c .before .before .before .select in
+    front-length _ _ _ _ _ (s .ensures .0) (s .ensures .1 .0)
+
+survey-large-requires : tie.Need-survey-large-requires
+survey-large-requires c κs =
+    let start = c .before .before .before .before .before .before .before .before .before .before .before .before .before in
+    let s = c .before .before .before .before .before .before .before .select in
+    (start .pre .0, front-selected _ _ _ _ _ (s .ensures .0) (s .ensures .1 .0), start .pre .1)
 
 same-length-5 : tie.Need-same-length-5
 same-length-5 c = search needs
@@ -78,14 +78,14 @@ survey-spec =
     array-share-prefix-table
     slice-aggregate-survey-small
     survey-small-requires
-    array-share-prefix-table-2
-    slice-aggregate-survey-large
-    survey-large-requires
     same-length
     same-length-2
     same-length-3
     same-length-4
     returns
+    array-share-prefix-table-2
+    slice-aggregate-survey-large
+    survey-large-requires
     same-length-5
     same-length-6
     same-length-7
