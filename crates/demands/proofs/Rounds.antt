@@ -1,6 +1,6 @@
 -- Request (d) of 02: "Marking goes on after it is done." From bytes: `bytes` spell an accepted model. That the number which the search counts is the
 -- number of rounds stands in its contracts (`marking::distances`, `survey::search`, `survey::survey`).
-use mathlib.Core.Path.{_≡_, sym, subst, _∙_}
+use mathlib.Core.Path.{_≡_, sym, ap, subst, _∙_}
 use mathlib.Core.Logic.{_↔_}
 use mathlib.Core.List.{List}
 use Prim.Native.Nat.{ℕ, suc, _+_, _-_, _≤_, _<_}
@@ -62,13 +62,14 @@ module _ (bytes : List ℕ) (e : readModel bytes .refusal ≡ 0) where
 
   -- ---- "at most as many rounds as there are marked states"
 
+  marked-many : count (Y .size) (marks Y) ≡ count S (marks Y)
+  marked-many = ap (λ (k : ℕ). count k (marks Y)) (size-states m)
+
+  marked-count : Counted (MarkedAt a) S (count S (marks Y))
+  marked-count = counted (MarkedAt a) (marks Y) S (marks-states m ok)
+
   pub plan-few : (r n : ℕ) → PlanRounds a r → Counted (MarkedAt a) S n → r ≤ n
-  plan-few r n R C =
-      let c = counted-once C (counted (MarkedAt a) (marks Y) S (marks-states m ok)) in
-      omega (arith, plan-rounds r .0 R, bound)
-    where
-      bound : rounds Y ≤ count S (marks Y)
-      bound = rw (size-states m) at (rounds-few Y (system-laws m ok))
+  plan-few r n R C = omega (arith, counted-once C marked-count, plan-rounds r .0 R, rounds-few Y (system-laws m ok), marked-many)
 
   -- ---- "A round goes over each state at most once"
 
@@ -87,7 +88,7 @@ module _ (bytes : List ℕ) (e : readModel bytes .refusal ≡ 0) where
     n = reachedCount ds
 
     many : n ≡ count S (marks Y)
-    many = rw (size-states m) at (count-marks Y (system-laws m ok) ds (F .surveyed .distances))
+    many = count-marks Y (system-laws m ok) ds (F .surveyed .distances) ∙ marked-many
 
     long : length ds ≡ S
     long = F .surveyed .distances .long ∙ size-states m
@@ -112,7 +113,7 @@ module _ (bytes : List ℕ) (e : readModel bytes .refusal ≡ 0) where
         (ltb-true 0 (mark (Y .size) (step Y) (Y .start) p) (mark-marks Y (system-laws m ok) p ∙ marks-states m ok p h .1 c))
 
     all : Counted (MarkedAt a) S n
-    all = subst (Counted (MarkedAt a) S) (sym many) (counted (MarkedAt a) (marks Y) S (marks-states m ok))
+    all = subst (Counted (MarkedAt a) S) (sym many) marked-count
 
     pub by-rounds : MarkedByRounds a S n r queue
     by-rounds = record {

@@ -177,11 +177,15 @@ module _ (m : Model) (ok : Lawful m) where
             rw (count-is, f)
             (start-short (regionsIn m) (regions-are m ok) (some-regions m), g, marking-shape h, record { locations = m .locations; states = refl; spots = i })
 
+        -- the tables that it reads
+        pub tables-by : Heights m heights → marking.Tables (systemOfModel m) (m .start * r) r first targets shapes heights
+        tables-by H = rw count-is (marking-tables H)
+
         -- what it finds
         pub levelled-by : Heights m heights → (start : ℕ) → start ≡ m .start * r → (distance queue : List ℕ) (n : ℕ) → length distance ≡ states m
             → marking.Found start r first targets shapes heights distance queue n → Levelled m heights distance queue × (n ≡ rounds (systemOfModel m))
         levelled-by H start s distance queue n long found =
-            let tables : marking.Tables (systemOfModel m) start r first targets shapes heights = rw (s, count-is) (marking-tables H) in
+            let tables : marking.Tables (systemOfModel m) start r first targets shapes heights = rw s (tables-by H) in
             let size = size-states m ∙ sym long in (
               record {
                 surveyed = record { heights = H; distances = found .distances (systemOfModel m) (system-laws m ok) size tables };

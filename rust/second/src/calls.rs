@@ -1,5 +1,6 @@
 //! The calls: judge, marks, evidence, check; of document 02 the shortest form of
-//! a plan; and beyond both the margin of our sheet and the harm of our trail.
+//! a plan and the rounds of the marking; and beyond both the margin of our sheet
+//! and the harm of our trail.
 //! Scratch is given as the four lengths alone, since this checker uses memory of
 //! its own; they decide only about refusal 8. Output is written on success and
 //! not otherwise.
@@ -9,7 +10,7 @@ use crate::components::Components;
 use crate::graph::Graph;
 use crate::harm::Bound;
 use crate::margin::by_sheet;
-use crate::marking::{distance_to_forbidden, is_unsafe, marked_set};
+use crate::marking::{distance_to_forbidden, is_unsafe, levels, marked_set, ALL_STEPS};
 use crate::model::{read_model, read_plan, Model};
 use crate::refusal::*;
 use crate::regions::Regions;
@@ -27,6 +28,15 @@ pub struct Judgement {
     pub states: usize,
     /// Marked states if safe, steps of our trail if unsafe.
     pub count: usize,
+}
+
+/// How soon the marking is done.
+#[derive(Clone, Copy, Debug, PartialEq, Eq)]
+pub struct Rounds {
+    /// The rounds, with the one that marks nothing.
+    pub rounds: usize,
+    /// The marked states.
+    pub marked: usize,
 }
 
 /// How slight a drift is harmless for ever.
@@ -158,6 +168,17 @@ pub fn check_evidence(model: &[u8], evidence: &[u8], scratch: Scratch) -> Result
 /// number of its bytes.
 pub fn write_plan(model: &[u8], out: &mut [u8]) -> Result<usize, Refusal> {
     put_first(&shortest_plan(&read_plan(model)?), out)
+}
+
+/// The rounds in which the marked set is found. No scratch is lent, so that none
+/// is too short.
+pub fn rounds(model: &[u8]) -> Result<Rounds, Refusal> {
+    let graph = Graph::new(read_model(model)?);
+    let levels = levels(&graph, &Components::new(&graph), ALL_STEPS);
+    Ok(Rounds {
+        rounds: levels.len(),
+        marked: levels.iter().map(Vec::len).sum(),
+    })
 }
 
 /// The margin of the sheet that we write for a safe model.

@@ -1,4 +1,5 @@
-//! The marked set, and the distance of each state from a forbidden location.
+//! The marked set, the rounds in which it is found, and the distance of each
+//! state from a forbidden location.
 //!
 //! Touch partners are found through the corners: a corner of a location is
 //! noted once, and leads at once to all states there that have this corner.
@@ -22,36 +23,85 @@ pub const ALL_STEPS: Closure = Closure {
     touch: true,
 };
 
-/// The smallest set with the start that is closed under the chosen steps.
-pub fn reached(graph: &Graph, components: &Components, closure: Closure) -> Vec<bool> {
-    let regions = graph.regions;
-    let mut marked = vec![false; graph.states()];
-    let mut noted = CornerNotes::new(graph);
-    let mut waiting = vec![graph.start];
-    marked[graph.start] = true;
-    let mut found = Vec::new();
-    while let Some(state) = waiting.pop() {
-        found.extend(graph.steps(state).iter().map(|step| step.to as usize));
-        let base = graph.base_of(state);
-        let region = graph.region_of(state);
-        if closure.face {
-            found.extend(regions.faces[region].iter().map(|face| base + face));
+/// A marking under way.
+struct Marking<'a> {
+    graph: &'a Graph,
+    components: &'a Components,
+    closure: Closure,
+    marked: Vec<bool>,
+    noted: CornerNotes,
+}
+
+impl<'a> Marking<'a> {
+    /// The start is marked and no other state.
+    fn new(graph: &'a Graph, components: &'a Components, closure: Closure) -> Marking<'a> {
+        let mut marked = vec![false; graph.states()];
+        marked[graph.start] = true;
+        Marking {
+            graph,
+            components,
+            closure,
+            marked,
+            noted: CornerNotes::new(graph),
         }
-        if closure.touch {
-            noted.for_new_corners(graph, state, |near| {
+    }
+
+    /// Marks every unmarked state that is one step from this one, and adds it
+    /// to a list.
+    fn go_over(&mut self, state: usize, newly: &mut Vec<usize>) {
+        let (graph, components) = (self.graph, self.components);
+        let marked = &mut self.marked;
+        let mut mark = |next: usize| {
+            if graph.allowed[next] && !marked[next] {
+                marked[next] = true;
+                newly.push(next);
+            }
+        };
+        for step in graph.steps(state) {
+            mark(step.to as usize);
+        }
+        if self.closure.face {
+            let base = graph.base_of(state);
+            for face in &graph.regions.faces[graph.region_of(state)] {
+                mark(base + face);
+            }
+        }
+        if self.closure.touch {
+            self.noted.for_new_corners(graph, state, |near| {
                 if components.on_cycle[near] {
-                    found.push(near);
+                    mark(near);
                 }
             });
         }
-        for next in found.drain(..) {
-            if graph.allowed[next] && !marked[next] {
-                marked[next] = true;
-                waiting.push(next);
-            }
-        }
     }
-    marked
+}
+
+/// The smallest set with the start that is closed under the chosen steps.
+pub fn reached(graph: &Graph, components: &Components, closure: Closure) -> Vec<bool> {
+    let mut marking = Marking::new(graph, components, closure);
+    let mut waiting = vec![graph.start];
+    while let Some(state) = waiting.pop() {
+        marking.go_over(state, &mut waiting);
+    }
+    marking.marked
+}
+
+/// The same set by the rounds of request (d) of document 02: each level is what
+/// one round goes over, and the next level what it marks. The round over the
+/// last level marks nothing.
+pub fn levels(graph: &Graph, components: &Components, closure: Closure) -> Vec<Vec<usize>> {
+    let mut marking = Marking::new(graph, components, closure);
+    let mut levels = Vec::new();
+    let mut level = vec![graph.start];
+    while !level.is_empty() {
+        let mut next = Vec::new();
+        for &state in &level {
+            marking.go_over(state, &mut next);
+        }
+        levels.push(level);
+        level = next;
+    }
+    levels
 }
 
 /// The marked set of document 01.

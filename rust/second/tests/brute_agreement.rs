@@ -16,7 +16,7 @@ use second::numbers::{numbers_of, push_padded};
 use second::padding::{count, first_padded, pad_at};
 use second::random::Random;
 use second::regions::Regions;
-use second::{judge, marks, read_model, read_plan};
+use second::{judge, marks, read_model, read_plan, rounds};
 use std::collections::BTreeMap;
 
 /// Holds everything about a model against the brute-force route; true if the
@@ -28,6 +28,7 @@ fn compare(model: &[u8], seed: u64, changes: u64) -> bool {
             assert_eq!(read_model(model), Err(refusal), "{model:?}");
             assert_eq!(judge(model, ENOUGH), Err(refusal));
             assert_eq!(check(model, &[]), Err(refusal));
+            assert_eq!(rounds(model), Err(refusal));
             return false;
         }
     };
@@ -47,6 +48,10 @@ fn compare(model: &[u8], seed: u64, changes: u64) -> bool {
             .collect::<Vec<u8>>(),
         "{model:?}"
     );
+
+    let counted = rounds(model).expect("accepted by both");
+    let counted = (counted.rounds, counted.marked);
+    assert_eq!(counted, brute.rounds(), "{model:?}");
 
     let ours = evidence(model);
     assert_eq!(ours, brute.evidence(), "{model:?}");

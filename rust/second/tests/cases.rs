@@ -9,8 +9,10 @@ use second::brute::{spellings, Brute};
 use second::calls::states_of;
 use second::cases::rules::{broken_rules, Rule, RULES};
 use second::cases::{answers, cases};
+use second::components::Components;
 use second::graph::Graph;
 use second::limits::{MAX_CLOCKS, MAX_EDGES};
+use second::marking::{levels, Closure, ALL_STEPS};
 use second::mutate::{roles, Role};
 use second::numbers::{numbers_of, shortest, Reader};
 use second::padding::{first_padded, pad_at};
@@ -97,6 +99,7 @@ fn every_answer_of_an_operation_comes_up() {
         ("write", &[8, 9]),
         ("plan", &[9]),
         ("margin", &[]),
+        ("rounds", &[]),
     ] {
         for number in 0..=LAST {
             let expected = number <= 7 || beyond_7.contains(&number);
@@ -271,6 +274,74 @@ fn the_brute_force_route_judges_alike() {
         by_mark[usize::from(model[0] % 128)] += 1;
     }
     assert!(by_mark[1] >= 150 && by_mark[2] >= 75, "{by_mark:?}");
+}
+
+/// The rounds and marked states of all but the large plans, by the brute-force
+/// route.
+#[test]
+fn the_brute_force_route_counts_alike() {
+    let mut counted = 0;
+    for (model, line, answer) in all_answered() {
+        let many = read_model(&model).is_ok_and(|model| states_of(&model) > 400);
+        if line != "rounds" || many {
+            continue;
+        }
+        let words = match Brute::new(&model).map(|brute| brute.rounds()) {
+            Ok((rounds, marked)) => format!("0 {rounds} {marked}"),
+            Err(refusal) => refusal.to_string(),
+        };
+        assert_eq!(answer, words, "{model:?}");
+        counted += 1;
+    }
+    assert!(counted >= 50);
+}
+
+/// The accepted plans whose rounds are counted.
+fn counted_graphs() -> Vec<Graph> {
+    let mut all = all_answered();
+    all.retain(|(_, line, answer)| line == "rounds" && answer.starts_with("0 "));
+    all.iter()
+        .map(|(model, _, _)| Graph::new(read_model(model).unwrap()))
+        .collect()
+}
+
+/// For each number of clocks some plan has a state that is marked in the last
+/// round but one, and then by a touch alone.
+#[test]
+fn touches_mark_last() {
+    let mut clocks = BTreeSet::new();
+    for graph in counted_graphs() {
+        let levels = levels(&graph, &Components::new(&graph), ALL_STEPS);
+        let [.., before, last] = &levels[..] else {
+            continue;
+        };
+        let otherwise = |to: usize| before.iter().any(|&from| leads(&graph, from, to));
+        if !last.iter().all(|&state| otherwise(state)) {
+            clocks.insert(graph.model.clocks);
+        }
+    }
+    assert_eq!(clocks, (1..=MAX_CLOCKS).collect());
+}
+
+/// Whether a step that is no touch leads from one state to another.
+fn leads(graph: &Graph, from: usize, to: usize) -> bool {
+    let faces = &graph.regions.faces[graph.region_of(from)];
+    let mut faces = faces.iter().map(|face| graph.base_of(from) + face);
+    let mut steps = graph.steps(from).iter();
+    steps.any(|step| step.to as usize == to) || faces.any(|face| face == to)
+}
+
+/// Some plans take more rounds without faces, others without touches.
+#[test]
+fn faces_and_touches_save_rounds() {
+    let mut saved = [0; 2];
+    for graph in counted_graphs() {
+        let components = Components::new(&graph);
+        let rounds = |face, touch| levels(&graph, &components, Closure { face, touch }).len();
+        saved[0] += usize::from(rounds(false, true) > rounds(true, true));
+        saved[1] += usize::from(rounds(true, false) > rounds(true, true));
+    }
+    assert!(saved[0] >= 2 && saved[1] >= 10, "{saved:?}");
 }
 
 /// Each accepted plan of mark 2 is also there with mark 1. The mark changes

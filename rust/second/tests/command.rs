@@ -190,7 +190,7 @@ fn cases_and_answers() {
     assert!(printed.contains("\n1,5,3,1: 0 1\n"));
     assert!(printed.contains("\njudge: 0 1 132 8, zero 132 132 132 132\n"));
     let row = b"- row\n1,1,1,1,0,0,0,0\n1,5,3,1\njudge\njudge 3,3,3,3\nmarks 4,3,3,3,3\n\
-        sheet_margin\nsheet_margin 3,3,3,3\nharm 3,3,3,3\nplan\nplan 0\nplan 9\n";
+        sheet_margin\nsheet_margin 3,3,3,3\nharm 3,3,3,3\nplan\nplan 0\nplan 9\nrounds\n";
     let lent = String::from_utf8(answer(&["answers", "-", "2"], row)).unwrap();
     let lines: Vec<&str> = lent.lines().collect();
     assert_eq!(
@@ -207,6 +207,7 @@ fn cases_and_answers() {
             "plan: 9, out 7,7",
             "plan 0: 9, out",
             "plan 9: 0 8, out 1,1,1,1,0,0,0,0,7",
+            "rounds: 0 3 3",
         ]
     );
     for wrong in [

@@ -7,7 +7,7 @@ use common::ENOUGH;
 use second::generate::{generate_sized, Class};
 use second::limits::{MAX_CEILING, MAX_CLOCKS, MAX_LOCATIONS, MAX_STATES};
 use second::program::OUTPUT;
-use second::{check_evidence, harm, judge, sheet_margin, write_evidence};
+use second::{check_evidence, harm, judge, rounds, sheet_margin, write_evidence};
 use std::time::{Duration, Instant};
 
 fn within(limit: Duration, sizes: &[(usize, u32, usize, usize)], classes: &[Class]) {
@@ -31,6 +31,9 @@ fn within(limit: Duration, sizes: &[(usize, u32, usize, usize)], classes: &[Clas
                 let begin = Instant::now();
                 assert!(harm(&model, ENOUGH).is_ok());
                 assert!(begin.elapsed() < limit, "harm");
+                let begin = Instant::now();
+                assert!(rounds(&model).is_ok());
+                assert!(begin.elapsed() < limit, "rounds");
             }
         }
     }

@@ -3,16 +3,17 @@
 //!
 //! Regions are met through a sample valuation each, in eighths of a unit;
 //! corners are the whole points of a region's closure; closed walks come from
-//! a transitive closure, marks and heights from repeated sweeps; trails and
-//! walks are compared as whole lists, and walks within a fringe lengthened
-//! step by step; limits that blank stay fields mean, and spellings of a number
-//! and of a plan, are tried one by one.
+//! a transitive closure, marks, their rounds and heights from repeated sweeps;
+//! trails and walks are compared as whole lists, and walks within a fringe
+//! lengthened step by step; limits that blank stay fields mean, and spellings of
+//! a number and of a plan, are tried one by one.
 
 pub mod check;
 pub mod harm;
 pub mod margin;
 pub mod read;
 pub mod regions;
+pub mod rounds;
 pub mod spellings;
 pub mod states;
 pub mod trails;

@@ -1,7 +1,7 @@
 //! What the proved program prints for the text of cases.
 
 use super::{listed, MOST};
-use crate::calls::{check_evidence, harm, judge, marks, sheet_margin, states_of};
+use crate::calls::{check_evidence, harm, judge, marks, rounds, sheet_margin, states_of};
 use crate::calls::{write_evidence, write_plan, Harm, Scratch, SheetMargin};
 use crate::margin::by_drawing;
 use crate::model::read_model;
@@ -45,6 +45,7 @@ fn answer(model: &[u8], line: &str, length: usize) -> Result<String, String> {
         "margin" => margin_answer(model),
         "sheet_margin" => sheet_margin_answer(model, scratch(0)),
         "harm" => harm_answer(model, scratch(0)),
+        "rounds" => rounds_answer(model),
         _ => {
             let evidence = bytes_of_text(line)?;
             let kind = check_evidence(model, &evidence, [length; 4]);
@@ -139,4 +140,8 @@ fn harm_answer(model: &[u8], scratch: Scratch) -> String {
         }
     });
     told(values) + &zeros
+}
+
+fn rounds_answer(model: &[u8]) -> String {
+    told(rounds(model).map(|found| vec![found.rounds, found.marked]))
 }

@@ -8,6 +8,7 @@ mod operations;
 mod padding;
 mod plans;
 mod reading;
+mod rounds;
 pub mod rules;
 
 pub use answers::answers;
@@ -34,8 +35,12 @@ pub fn cases() -> String {
     operations::operations(&mut text);
     plans::plans(&mut text);
     blanks::blanks(&mut text);
+    rounds::rounds(&mut text);
     text.lines
 }
+
+/// Puts a plan, by its name and its bytes, with some operations.
+type Put = fn(&mut Text, &str, &[u8]);
 
 /// The text of cases. Bytes stand in decimal, set apart by commas. A line
 /// that begins with '-' announces a plan, whose bytes are the next line; the
@@ -101,8 +106,8 @@ impl Text {
         }
     }
 
-    /// An accepted plan with every operation and what there is to tell of
-    /// drift: the margin of our sheet, or the harm of our trail.
+    /// An accepted plan with every operation, what there is to tell of drift,
+    /// the margin of our sheet or the harm of our trail, and its rounds.
     fn judged_with_drift(&mut self, name: &str, model: &[u8]) {
         self.judged(name, model);
         let graph = Graph::new(read_model(model).expect("an accepted plan"));
@@ -112,10 +117,11 @@ impl Text {
             "sheet_margin"
         };
         self.line_with_scratch(operation, &enough(graph.states()));
+        self.line("rounds");
     }
 
     /// Each line of a list: a plan, as a name with bytes, or a comment.
-    fn all(&mut self, plans: &str, put: fn(&mut Text, &str, &[u8])) {
+    fn all(&mut self, plans: &str, put: Put) {
         for line in plans.lines() {
             match line.split_once(':') {
                 Some((name, bytes)) if !line.starts_with('#') => {

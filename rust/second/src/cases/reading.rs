@@ -1,9 +1,9 @@
 //! Plans that are read, and plans that are refused by 1 to 7.
 
-use super::Text;
+use super::{Put, Text};
 
 /// A line for each plan, its name and its bytes; and comments.
-const PLANS: &str = "\
+const NUMBERS: &str = "\
 # Numbers, here of locations: 5 in one to three bytes, and 2,097,151.
 number 5: 1,1,1,5,0,0,0,0,0,0,0,0,0,0,0,0
 number 133 0: 1,1,1,133,0,0,0,0,0,0,0,0,0,0,0,0,0
@@ -13,11 +13,19 @@ number 255 255 127: 1,1,1,255,255,127,0,0,0,0,0,0,0,0,0,0,0,0
 number 133 128 128: 1,1,1,133,128,128,0,0,0,0,0,0,0,0,0,0,0,0
 number 128 128: 1,1,1,128,128
 number of no bytes: 1,1,1
+";
+
+/// Limits of document 01's bench, alike.
+pub const LIMITS: &str = "\
 # A limit, and the next number beyond it.
 ceiling 4: 1,1,4,1,0,0,0,0
 ceiling 5: 1,1,5,1,0,0,0,0
 stay M+1: 1,1,1,1,0,0,0,2
 stay M+2: 1,1,1,1,0,0,0,3
+";
+
+/// All other plans, alike.
+const PLANS: &str = "\
 # Models that are read.
 tiny model: 1,1,1,1,0,0,0,0
 loop plan: 1,2,2,4,4,0,0,0,0,0,0,0,0,0,0,1,0,0,0,1,2,1,1,1,1,1,2,1,0,2,0,2,2,1,2,0,2,2,2,2,3,0,0,0,2,2
@@ -113,13 +121,19 @@ low's range before a missing high: 1,1,1,1,1,0,0,0,0,0,1,2
 ";
 
 pub fn reading(text: &mut Text) {
+    text.all(NUMBERS, Text::judged);
+    text.all(LIMITS, Text::judged);
     text.all(PLANS, Text::judged);
-    text.note("The most edges, and one more.");
-    text.judged("24 edges", &loops(24));
-    text.judged("25 edges", &loops(25));
+    most_edges(text, Text::judged);
     text.note("The longest closed walk.");
     text.judged("ring of eight without reset", &eight(0));
     text.judged("ring of eight with one reset", &eight(1));
+}
+
+pub fn most_edges(text: &mut Text, put: Put) {
+    text.note("The most edges, and one more.");
+    put(text, "24 edges", &loops(24));
+    put(text, "25 edges", &loops(25));
 }
 
 /// One location and as many edges from it to itself, each of which resets the
