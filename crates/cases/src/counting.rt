@@ -11,13 +11,7 @@ use limits::cast::from_word;
 use model::Model;
 
 // How many rounds the marking takes, and how many states it marks.
-fn counted(
-    m: Model,
-    s1: &mut [Word],
-    s2: &mut [Word],
-    s3: &mut [Word],
-    s4: &mut [Word],
-) -> Answer
+fn counted(m: Model, s1: &mut [Word], s2: &mut [Word], s3: &mut [Word], s4: &mut [Word]) -> Answer
     requires { ⌜ Lawful m × Scratch (states m) (now s1) (now s2) (now s3) (now s4) ⌝ }
 {
     let rounds = survey::survey(m, s1, s2, s3, s4);

@@ -156,9 +156,9 @@ module _ (S : ℕ) (r : ℕ → ℕ → Bool) (inside : Inside S r) (a : ℕ) (a
   levels-few (suc k) l =
       let (q, b, e) = each-level k (omega arith) in
       let more = count-strict S (upTo k) (upTo (suc k))
-          (λ i _ t. let (x, y) = upto-law k i .0 t in upto-law (suc k) i .1 (x, omega arith)) q b
-          (false-unless-true (upTo k q) (λ t. let (x, y) = upto-law k q .0 t in omega arith))
-          (upto-law (suc k) q .1 (omega arith, omega arith)) in
+      (λ i _ t. let (x, y) = upto-law k i .0 t in upto-law (suc k) i .1 (x, omega arith)) q b
+      (false-unless-true (upTo k q) (λ t. let (x, y) = upto-law k q .0 t in omega arith))
+      (upto-law (suc k) q .1 (omega arith, omega arith)) in
       omega (arith, levels-few k (omega arith))
 
   pub graph-few : top S (mark S r a) ≤ count S (λ p. ltb 0 (mark S r a p))
