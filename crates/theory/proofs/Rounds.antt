@@ -1,6 +1,6 @@
 -- Laws of rounds. Over the steps of a graph a node is new after as many rounds as its distance. So there is one number of rounds, the greatest distance
 -- plus one, and as many nodes are marked at the least.
-use mathlib.Core.Path.{_≡_, refl, sym, subst, _∙_}
+use mathlib.Core.Path.{_≡_, sym, subst, _∙_}
 use mathlib.Core.Bool.{Bool, true, _&&_}
 use mathlib.Core.Logic.{_↔_, ⊎-elim}
 use mathlib.Core.List.{List, [], _∷_, _++_}
@@ -20,7 +20,7 @@ use Rattle.theory.proofs.Below.{and↔, ltb↔, leb↔, false-unless-tr
 use Rattle.theory.proofs.Walk.{walk-append}
 use Rattle.theory.proofs.System.{start-below}
 use Rattle.theory.proofs.Marked.{step-is, is-step, step-inside, marked-walk}
-use Rattle.theory.proofs.Levels.{mark-in, mark-is, mark-marks, far-min, far-below, far-walk, far-inside, far-start, far-last}
+use Rattle.theory.proofs.Levels.{mark-in, mark-is, mark-marks, far-min, far-below, far-walk, far-inside, far-last}
 use Rattle.theory.specs.Marked as marked
 
 -- ---- over any states

@@ -1,6 +1,6 @@
 -- The rounds on the numbers of an automaton's states are those on its states.
 use Prim.Native.Nat.{ℕ, _+_, _<_}
-use mathlib.Core.Path.{_≡_, sym, subst, _∙_}
+use mathlib.Core.Path.{_≡_, sym, subst}
 use mathlib.Core.Logic.{_↔_}
 use Rattle.theory.specs.Automaton.{Automaton, Capped}
 use Rattle.theory.specs.Region.{Region}

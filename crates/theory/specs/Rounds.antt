@@ -1,5 +1,4 @@
 -- 02 (d): the marking by rounds, over any states and steps.
-use mathlib.Core.Path.{_≡_}
 use Prim.Native.Nat.{ℕ, suc, _<_}
 use Rattle.theory.specs.Below.{top}
 use Rattle.theory.specs.System.{System}

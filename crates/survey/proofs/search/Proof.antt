@@ -3,10 +3,7 @@ use borrow.Author.Needs.{needs}
 use native.Mathlib.Omega.{arith}
 use Prim.Native.Nat.{ℕ, _*_}
 use mathlib.Core.Path.{subst, refl, sym, ap, _∙_}
-use Rattle.graph.proofs.Plan.{size-states}
 use Rattle.limits.specs.Limits.{maxLocations, pointCount}
-use Rattle.graph.specs.Plan.{systemOfModel}
-use Rattle.graph.proofs.Models.{system-laws}
 use Rattle.graph.proofs.States.{clocks-of, ceiling-of}
 use Rattle.component.specs.Marks.{Marks}
 use Rattle.tables.proofs.Lent.{prefix-long}
