@@ -15,5 +15,7 @@ pub use op_plan::Stored;
 pub use op_plan::write_plan;
 pub use op_sheet_margin::Bound;
 pub use op_sheet_margin::sheet_margin;
+pub use op_soonest::Arrival;
+pub use op_soonest::soonest;
 pub use op_write::Written;
 pub use op_write::write_evidence;

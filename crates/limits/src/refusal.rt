@@ -32,3 +32,6 @@ pub const TRAIL_END: u8 = 14;
 
 // 02 (b): a number of evidence is not in shortest form.
 pub const PADDED: u8 = 15;
+
+// 02 (e): there is no such location, or no run gets there.
+pub const UNREACHED: u8 = 16;

@@ -6,5 +6,5 @@ pub mod Corners
 pub mod Leading
 -- What the tables lead to is what the system's steps lead to; the marked states are those that are reached.
 pub mod Steps
--- The least distance of a goal.
+-- The least distance of a forbidden state.
 pub mod LeastDistance

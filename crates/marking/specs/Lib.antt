@@ -4,5 +4,3 @@
 pub mod Tables
 -- The states that have a corner at a point, and the flags of points.
 pub mod Corners
--- The least distance of a goal.
-pub mod LeastDistance

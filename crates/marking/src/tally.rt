@@ -8,8 +8,8 @@ ghost use Rattle.theory.specs.Below.{count};
 ghost use Rattle.theory.specs.System.{System, Laws};
 ghost use Rattle.theory.specs.Marked.{marks};
 ghost use Rattle.theory.specs.Trail.{trailSteps};
+ghost use Rattle.search.specs.Lowest.{Lower};
 ghost use Rattle.marking.specs.Tables.{Distances, Forbids};
-ghost use Rattle.marking.specs.LeastDistance.{Lower};
 use limits::Word;
 use limits::cast::from_word;
 

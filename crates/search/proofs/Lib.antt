@@ -8,6 +8,8 @@ pub mod Rows
 pub mod Queue
 -- The least state of a set.
 pub mod Scan
+-- The least level of a goal.
+pub mod Lowest
 -- The rounds of the search.
 pub mod Rounds
 -- The pass of flags from the last level down.

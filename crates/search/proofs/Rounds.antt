@@ -23,7 +23,7 @@ use Rattle.search.proofs.Queue.{takes-one, takes-kept}
 
 -- ---- the first round
 
-module _ (Lead : ℕ → ℕ → Type 0) (level queue : List ℕ) (start : ℕ) (zero : (p : ℕ) → getD level p 0 ≡ 0) (limit : length level ≤ maxStates)
+module _ (level queue : List ℕ) (start : ℕ) (zero : (p : ℕ) → getD level p 0 ≡ 0) (limit : length level ≤ maxStates)
     (same : length queue ≡ length level) (b : start < length level) where
   fits-none : Queued level queue 0
   fits-none = record {
@@ -37,8 +37,13 @@ module _ (Lead : ℕ → ℕ → Type 0) (level queue : List ℕ) (start : ℕ) 
         ∙ count-none (length level);
   }
 
+  pub start-taken : TakesAll 0 (λ p. p ≡ start) level (set level start 1) queue (set queue 0 start) 0 1
+  start-taken = takes-one fits-none 0 start b (zero start)
+
+module _ (Lead : ℕ → ℕ → Type 0) (level queue : List ℕ) (start : ℕ) (zero : (p : ℕ) → getD level p 0 ≡ 0) (limit : length level ≤ maxStates)
+    (same : length queue ≡ length level) (b : start < length level) where
   only : TakesAll 0 (λ p. p ≡ start) level (set level start 1) queue (set queue 0 start) 0 1
-  only = takes-one fits-none 0 start b (zero start)
+  only = start-taken level queue start zero limit same b
 
   one : (i : ℕ) → i < 1 → getD (set level start 1) (getD (set queue 0 start) i 0) 0 ≡ 1
   one i l = only .takes .fresh i (omega arith) l

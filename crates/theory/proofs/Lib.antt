@@ -61,6 +61,10 @@ pub mod StateGraph
 pub mod First
 -- Its marked numbers are the marked states; a closed set of numbers covers slight drift.
 pub mod StateMarked
+-- 02 (e): perfect clocks may be rounded down, so the least whole time is the least of all; it is found by jumps and units of waiting on numbered states.
+pub mod Soonest
+pub mod Timed
+pub mod TimedRuns
 -- ---- searches level by level
 
 -- Rows of successors in lists.

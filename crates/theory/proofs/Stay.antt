@@ -17,7 +17,7 @@ use Rattle.theory.proofs.Rounding.{rounded}
 -- ---- a unit of time from a whole point
 
 -- the region between the whole values v and those a unit later
-abbrev between : List ℕ → Region
+abbrev pub between : List ℕ → Region
 between [] = []
 between (x ∷ v) = clock x 1 ∷ between v
 
@@ -25,7 +25,7 @@ rise-point : (v : List ℕ) → riseRanks (point v) ≡ between v
 rise-point [] = refl
 rise-point (x ∷ v) = ap (λ u. clock x 1 ∷ u) (rise-point v)
 
-successor-point : (v : List ℕ) → successor (point v) ≡ between v
+pub successor-point : (v : List ℕ) → successor (point v) ≡ between v
 successor-point [] = refl
 successor-point (x ∷ v) = rise-point (x ∷ v)
 
@@ -41,7 +41,7 @@ carry-between : (v : List ℕ) → carry 1 (between v) ≡ point (elapse 1 v)
 carry-between [] = refl
 carry-between (x ∷ v) = ap (λ u. clock (x + 1) 0 ∷ u) (carry-between v)
 
-successor-between : (v : List ℕ) → successor (between v) ≡ point (elapse 1 v)
+pub successor-between : (v : List ℕ) → successor (between v) ≡ point (elapse 1 v)
 successor-between [] = refl
 successor-between (x ∷ v) =
     let one : topRank (between (x ∷ v)) ≡ 1 = omega (arith, top-between v) in
@@ -59,16 +59,16 @@ reset-point [] (x ∷ v) = refl
 reset-point (true ∷ bs) (x ∷ v) = ap (λ u. clock 0 0 ∷ u) (reset-point bs v)
 reset-point (false ∷ bs) (x ∷ v) = ap (λ u. clock x 0 ∷ u) (reset-point bs v)
 
-jump-point : (bs : List Bool) (v : List ℕ) → closeUp (resetClocks bs (point v)) ≡ point (resetValues bs v)
+pub jump-point : (bs : List Bool) (v : List ℕ) → closeUp (resetClocks bs (point v)) ≡ point (resetValues bs v)
 jump-point bs v = rw reset-point (renumber-point _ refl (resetValues bs v))
 
 -- ---- exact limits on values are limits on their point, and those on values a unit later hold of the region between
 
-fits-point : {v cs : List ℕ} → Upto 1 0 1 v cs → Fits (point v) cs
+pub fits-point : {v cs : List ℕ} → Upto 1 0 1 v cs → Fits (point v) cs
 fits-point Each.none = Each.none
 fits-point (Each.more {x = x} {c = c} h hs) = let l : x ≤ c = omega arith in Each.more l (fits-point hs)
 
-attains-point : {v cs : List ℕ} → AtLeast 1 0 1 v cs → Attains (point v) cs
+pub attains-point : {v cs : List ℕ} → AtLeast 1 0 1 v cs → Attains (point v) cs
 attains-point Each.none = Each.none
 attains-point (Each.more {x = x} {c = c} h hs) = let l : c ≤ x = omega arith in Each.more l (attains-point hs)
 
@@ -76,7 +76,7 @@ fits-between : (v : List ℕ) {cs : List ℕ} → Upto 1 0 1 (elapse 1 v) cs →
 fits-between [] Each.none = Each.none
 fits-between (x ∷ v) (Each.more {c = c} h hs) = let l : x + 1 ≤ c = omega arith in Each.more l (fits-between v hs)
 
-upto-earlier : (d : ℕ) (v : List ℕ) {cs : List ℕ} → Upto 1 0 1 (elapse d v) cs → Upto 1 0 1 v cs
+pub upto-earlier : (d : ℕ) (v : List ℕ) {cs : List ℕ} → Upto 1 0 1 (elapse d v) cs → Upto 1 0 1 v cs
 upto-earlier d [] Each.none = Each.none
 upto-earlier d (x ∷ v) (Each.more {c = c} h hs) = let l : x * 1 ≤ (c * 1 + 0) * 1 = omega arith in Each.more l (upto-earlier d v hs)
 
@@ -100,7 +100,7 @@ allowed-point kept l {v} h =
       stays = fits-point h;
     }
 
-allowed-between : {m : Automaton} → Capped m → (l : ℕ) (v : List ℕ) → Upto 1 0 1 (elapse 1 v) (m .invariant l) → Allowed m l (between v)
+pub allowed-between : {m : Automaton} → Capped m → (l : ℕ) (v : List ℕ) → Upto 1 0 1 (elapse 1 v) (m .invariant l) → Allowed m l (between v)
 allowed-between kept l v h =
     record {
       region = record { capped = under-ceiling kept l (fits-between v h); ranked = ranked-between v };

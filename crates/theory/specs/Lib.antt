@@ -37,6 +37,8 @@ pub mod Enumeration
 pub mod RegionGraph
 -- States by their numbers, and the system that they form.
 pub mod StateGraph
+-- 02 (e): the least time to a location with perfect clocks.
+pub mod Soonest
 -- An automaton at which the bound on the drift is sharp.
 pub mod Sharp
 -- ---- searches level by level

@@ -8,7 +8,8 @@ use borrow.Author.Needs.{needs}
 use native.Mathlib.Omega.{arith}
 use Rattle.theory.specs.Levels.{Fewest}
 use Rattle.theory.proofs.Levels.{fewest-first}
-use Rattle.marking.proofs.LeastDistance.{fewest-next, fewest-end}
+use Rattle.search.proofs.Lowest.{fewest-next}
+use Rattle.marking.proofs.LeastDistance.{fewest-end}
 use Rattle.marking.proofs.tally.fewest.Statement.{statement}
 use Rattle.marking.proofs.tally.fewest.Tie as tie
 

@@ -6,7 +6,7 @@ use lib.Dec.{eqb}
 use borrow.Author.Tests.{eq-eqb, ne-eqb}
 use borrow.Author.Needs.{needs}
 use native.Mathlib.Omega.{arith}
-use Rattle.marking.proofs.LeastDistance.{lower-none, lower-far, lower-not, lower-take}
+use Rattle.search.proofs.Lowest.{lower-none, lower-far, lower-not, lower-take}
 use Rattle.marking.proofs.tally.lower.Statement.{statement}
 use Rattle.marking.proofs.tally.lower.Tie as tie
 

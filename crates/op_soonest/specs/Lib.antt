@@ -1,0 +1,2 @@
+-- The least time to a location.
+pub mod Sounding
