@@ -60,7 +60,8 @@ enum drift_number {
     DRIFT_SHEET_RULE_BROKEN = 12,  /* a sheet rule broken */
     DRIFT_BAD_STEP = 13,           /* a trail step doesn't replay */
     DRIFT_ENDS_ORDINARY = 14,      /* trail ends in an ordinary location */
-    DRIFT_PADDED = 15              /* evidence number not in shortest form */
+    DRIFT_PADDED = 15,             /* evidence number not in shortest form */
+    DRIFT_UNREACHED = 16           /* no such location, or no run gets there */
 };
 
 /* What passed the check of evidence. */
@@ -135,6 +136,27 @@ uint64_t drift_check_evidence(
 uint64_t drift_write_plan(
     const uint8_t *model, size_t model_length,
     uint8_t *out, size_t out_length);
+
+/* The least time from the start to a location with perfect clocks, in whole
+ * units: some run on whole times takes just that long, and no run takes less,
+ * on whatever times. A run passes through forbidden locations as through
+ * others. The start location gives 0. Refusals 1 to 8; then 16 where the
+ * location number, however large, is no location's or no run gets there, which
+ * leaves the scratch's first S at zero like an answer.
+ *
+ * So a plan is clean with perfect clocks exactly where every forbidden location
+ * gives 16; and then, though it may be unsafe, no widened run of at most K jumps
+ * with (K+1)e < D enters one.
+ *
+ * The answer: number + 2^16 * units; the bits 8 to 15 are 0. See
+ * drift_units. */
+uint64_t drift_soonest(
+    const uint8_t *model, size_t model_length,
+    uint64_t location,
+    drift_word *s1, size_t s1_length,
+    drift_word *s2, size_t s2_length,
+    drift_word *s3, size_t s3_length,
+    drift_word *s4, size_t s4_length);
 
 /* The number whose first byte stands at an offset, any offset, and whether its
  * form was padded: evidence with such a number is refused by 15, this reader
@@ -220,6 +242,12 @@ static inline size_t drift_count(uint64_t answer)
 static inline size_t drift_written(uint64_t answer)
 {
     return (size_t)(answer >> 16);
+}
+
+/* Of drift_soonest: the time in units. */
+static inline uint32_t drift_units(uint64_t answer)
+{
+    return (uint32_t)(answer >> 16);
 }
 
 /* Of drift_check_evidence: DRIFT_SHEET or DRIFT_TRAIL. */

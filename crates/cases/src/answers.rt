@@ -1,5 +1,6 @@
 // Answers as 01 has them: the number, and behind 0 the values; a verdict is 0 safe, 1 unsafe.
 ghost use Prim.Native.Nat.{_≤_};
+use drift::Arrival;
 use drift::Bound;
 use drift::Evidence;
 use drift::Judgement;
@@ -76,6 +77,13 @@ pub fn of_onset(found: Onset) -> Answer {
         Onset::Safe(states) => Answer::Four(0, states, 0, 0),
         Onset::Within(states, base, rate) => Answer::Four(1, states, base, rate),
         Onset::Refused(number) => Answer::Refused(number),
+    }
+}
+
+pub fn of_arrival(found: Arrival) -> Answer {
+    match found {
+        Arrival::Time(units) => Answer::One(units),
+        Arrival::Refused(number) => Answer::Refused(number),
     }
 }
 

@@ -15,7 +15,7 @@ pub type Scratch = [Word; MAX_STATES];
 pub type Output = [u8; MAX_STATES];
 
 // Where a line does not say.
-const LENGTH: u16 = 4000;
+const LENGTH: u64 = 4000;
 
 // Of the four scratch slices and of the output.
 pub struct Lengths {
@@ -34,7 +34,7 @@ pub fn length(line: &[u8], k: usize) -> usize
     if n < MAX_STATES { n } else { MAX_STATES }
 }
 
-// The output's stands in field 1, the others in field k and the next three.
+// The output's stands in field 1, if there is one, the others in field k and the next three.
 pub fn lengths_of(line: &[u8], k: usize) -> Lengths
     requires { ⌜ k ≤ 2 ⌝ }
     ensures { λ r. ⌜ (r .s1 ≤ maxStates) × (r .s2 ≤ maxStates) × (r .s3 ≤ maxStates) × (r .s4 ≤ maxStates) × (r .out ≤ maxStates) ⌝ }

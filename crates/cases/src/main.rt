@@ -1,8 +1,9 @@
 // Cases of the public operations as data. On standard input a line that begins with '-' announces a plan, whose bytes stand on the next line, set apart
 // by commas as 01 writes them. Each line after it is a case of that plan: `judge`, `marks`, `write`, `plan`, `sheet_margin` and `harm` with the lengths of
-// what they are lent, `margin`, `rounds`, or else the bytes of a piece of evidence, an empty line too. A line that begins with '#' is a comment. All but
-// the plans' bytes is written back, a case with its answer behind it: 01's number and values; how many numbers of each scratch slice are zero then; and
-// the output. `rounds` is no public operation: its values are the rounds of the marking and the marked states.
+// what they are lent, `soonest` with a location and then the lengths, `margin`, `rounds`, or else the bytes of a piece of evidence, an empty line too. A
+// line that begins with '#' is a comment. All but the plans' bytes is written back, a case with its answer behind it: 01's number and values; how many
+// numbers of each scratch slice are zero then; and the output. `rounds` is no public operation: its values are the rounds of the marking and the marked
+// states.
 mod answers;
 mod counting;
 mod lent;
@@ -12,6 +13,7 @@ ghost use mathlib.Core.Path.{_≡_};
 ghost use Prim.Native.Nat.{_+_, _≤_, _<_, min};
 ghost use lib.ListN.{length};
 use answers::Answer;
+use answers::of_arrival;
 use answers::of_bound;
 use answers::of_evidence;
 use answers::of_judgement;
@@ -33,6 +35,7 @@ use libc::STDIN_FILENO;
 use limits::MAX_STATES;
 use limits::Word;
 use lines::after;
+use lines::field;
 use lines::letter;
 use lines::line_end;
 use lines::numbers;
@@ -41,6 +44,9 @@ use operation::operation_of;
 
 // Bytes of a plan or of evidence.
 const BYTES: usize = 1024;
+
+// Bytes of all lines.
+const TEXT: usize = 131072;
 
 // Evidence, with scratch as document 01's programs lend it.
 fn check(plan: &[u8], line: &[u8]) {
@@ -64,6 +70,7 @@ fn check(plan: &[u8], line: &[u8]) {
 fn call(
     operation: Operation,
     plan: &[u8],
+    location: u64,
     s1: &mut [Word],
     s2: &mut [Word],
     s3: &mut [Word],
@@ -75,6 +82,7 @@ fn call(
         Operation::Write => of_written(drift::write_evidence(plan, s1, s2, s3, s4, out)),
         Operation::SheetMargin => of_bound(drift::sheet_margin(plan, s1, s2, s3, s4)),
         Operation::Harm => of_onset(drift::harm(plan, s1, s2, s3, s4)),
+        Operation::Soonest => of_arrival(drift::soonest(plan, location, s1, s2, s3, s4)),
         _ => of_judgement(drift::judge(plan, s1, s2, s3, s4)),
     }
 }
@@ -87,7 +95,7 @@ fn shorten(plan: &[u8], line: &[u8]) {
     show_output(Operation::Plan, &out, n);
 }
 
-// With scratch of the lengths in field k and the next three.
+// With scratch of the lengths in field k and the next three; a location stands in field 1.
 fn run(operation: Operation, plan: &[u8], line: &[u8], k: usize)
     requires { ⌜ k ≤ 2 ⌝ }
 {
@@ -96,6 +104,7 @@ fn run(operation: Operation, plan: &[u8], line: &[u8], k: usize)
     let mut s3: Scratch = [7; MAX_STATES];
     let mut s4: Scratch = [7; MAX_STATES];
     let mut out: Output = [7; MAX_STATES];
+    let location = field(line, 1, 0);
     let lent = lengths_of(line, k);
     let n1 = lent.s1;
     let n2 = lent.s2;
@@ -105,6 +114,7 @@ fn run(operation: Operation, plan: &[u8], line: &[u8], k: usize)
     show_answer(call(
         operation,
         plan,
+        location,
         &mut s1[..n1],
         &mut s2[..n2],
         &mut s3[..n3],
@@ -125,7 +135,7 @@ fn answer(plan: &[u8], line: &[u8]) {
         Operation::Judge | Operation::SheetMargin | Operation::Harm => {
             run(operation, plan, line, 1)
         }
-        Operation::Marks | Operation::Write => run(operation, plan, line, 2),
+        Operation::Marks | Operation::Write | Operation::Soonest => run(operation, plan, line, 2),
     }
 }
 
@@ -185,7 +195,7 @@ fn plans(text: &[u8]) {
 }
 
 fn main() {
-    let mut text = io::large_buffer();
+    let mut text = [0u8; TEXT];
     let n = io::read_full(STDIN_FILENO, &mut text);
     plans(&text[..n]);
 }

@@ -9,12 +9,13 @@ pub enum Operation {
     Margin,
     SheetMargin,
     Harm,
+    Soonest,
     Plan,
     Rounds,
     Check,
 }
 
-// By the first letter, and `marks` or `margin` by the fourth. A piece of evidence has none.
+// By the first letter; `sheet_margin` or `soonest` by the second, `marks` or `margin` by the fourth. A piece of evidence has none.
 pub fn operation_of(line: &[u8]) -> Operation {
     let first = letter(line, 0);
     if first == b'j' {
@@ -24,7 +25,11 @@ pub fn operation_of(line: &[u8]) -> Operation {
         return Operation::Write;
     }
     if first == b's' {
-        return Operation::SheetMargin;
+        return if letter(line, 1) == b'o' {
+            Operation::Soonest
+        } else {
+            Operation::SheetMargin
+        };
     }
     if first == b'h' {
         return Operation::Harm;

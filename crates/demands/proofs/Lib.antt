@@ -26,3 +26,5 @@ pub mod Marks
 pub mod Narrower
 -- Request (d) of 02: marking goes on after it is done.
 pub mod Rounds
+-- Request (e) of 02: soonest sounding.
+pub mod Soonest

@@ -25,6 +25,8 @@ use Rattle.op_plan.specs.Plan.{planAnswer, planOutput}
 use Rattle.op_margin.specs.Margin.{marginAnswer}
 use Rattle.op_sheet_margin.specs.SheetMargin.{boundValues, sheetMarginAnswer}
 use Rattle.op_harm.specs.Harm.{harmValues, harmAnswer}
+use Rattle.least_time.specs.Model.{leastTime}
+use Rattle.op_soonest.specs.Sounding.{unreached, soonestRefusal, soonestAnswer}
 use Rattle.demands.specs.SameAnswers.{SameTimed, SameAnswers}
 
 module _ (bs cs : List ℕ) where
@@ -39,7 +41,7 @@ module _ (bs cs : List ℕ) where
     seen f lent = ap₂ f (refused lent) m
 
     pub same-timed : SameTimed bs cs
-    unfolding judged marksRefusal marked output checkAnswer writeAnswer writeOutput marginAnswer sheetMarginAnswer harmAnswer left
+    unfolding judged marksRefusal marked output checkAnswer writeAnswer writeOutput marginAnswer sheetMarginAnswer harmAnswer soonestRefusal soonestAnswer left
     same-timed =
         record {
           judge = seen (λ k n. answer k (verdict (systemOfModel n)));
@@ -51,6 +53,7 @@ module _ (bs cs : List ℕ) where
           margin = ap₂ (λ (k : ℕ) (n : Model). answer k (states n ∷ margin (automatonOf n) (n .locations) ∷ [])) r m;
           sheet-margin = seen (λ k n. answer k (boundValues n));
           harm = seen (λ k n. answer k (harmValues n));
+          soonest = λ l. seen (λ k n. answer (cond (eqb k 0) (unreached n l) k) (leastTime n l ∷ []));
           scratch = λ lent xs. seen (λ k n. cond (eqb k 0) (cleared (states n) xs) xs) lent;
         }
 

@@ -12,3 +12,5 @@ pub mod Padding
 pub mod Marks
 -- Request (d) of 02: the rounds of a plan's marking.
 pub mod Rounds
+-- Request (e) of 02: the answers of the least time.
+pub mod Soonest

@@ -11,8 +11,9 @@ use Rattle.op_plan.specs.Plan.{planAnswer, planOutput}
 use Rattle.op_margin.specs.Margin.{marginAnswer}
 use Rattle.op_sheet_margin.specs.SheetMargin.{sheetMarginAnswer}
 use Rattle.op_harm.specs.Harm.{harmAnswer}
+use Rattle.op_soonest.specs.Sounding.{soonestAnswer}
 
--- as models these bytes give the same verdict, marks, evidence, check, margins and scratch: all that 01 asks for
+-- as models these bytes give the same verdict, marks, evidence, check, margins, times and scratch: all that the timing decides
 pub record SameTimed (bs cs : List ℕ) : Type 0 where
   pub judge : (lent : List ℕ) → judged bs lent ≡ judged cs lent
   pub marks : (lent : List ℕ) (room : ℕ) → marked bs lent room ≡ marked cs lent room
@@ -23,6 +24,7 @@ pub record SameTimed (bs cs : List ℕ) : Type 0 where
   pub margin : marginAnswer bs ≡ marginAnswer cs
   pub sheet-margin : (lent : List ℕ) → sheetMarginAnswer bs lent ≡ sheetMarginAnswer cs lent
   pub harm : (lent : List ℕ) → harmAnswer bs lent ≡ harmAnswer cs lent
+  pub soonest : (l : ℕ) (lent : List ℕ) → soonestAnswer bs l lent ≡ soonestAnswer cs l lent
   pub scratch : (lent xs : List ℕ) → left bs lent xs ≡ left cs lent xs
 
 -- and the same shortest form

@@ -45,6 +45,9 @@ use Rattle.number.specs.Answer.{Answer, answer}
 use Rattle.call.specs.Call.{modelOf, statesOf, refusal}
 use Rattle.op_judge.specs.Judge.{countOf, verdict, judged}
 use Rattle.op_marks.specs.Marks.{marksRefusal, marked}
+use Rattle.least_time.specs.Model.{leastTime}
+use Rattle.op_soonest.specs.Sounding.{soonestRefusal, soonestAnswer}
+use Rattle.op_soonest.proofs.Arrivals.{soonest-taken}
 use Rattle.theory.proofs.Trail.{steps-verdict}
 use Rattle.drift_c.specs.Words.{value, judgeWord, countWord, checkWord, writeWord, numberWord, marginWord, harmShort, harmWord, harmOut, SmallValue, maxField, Fields, StatesFit, BytesFit, StoredFit}
 use Rattle.number.specs.declared.Number.the-variants as number
@@ -92,6 +95,20 @@ marks-fields bytes lent room =
   where
     past : marksRefusal bytes lent room ≡ 0 → refusal bytes lent ≡ 0
     past e = cond-ind (λ (r : ℕ). r ≡ 0 → refusal bytes lent ≡ 0) (eqb (refusal bytes lent) 0) (λ t _. eqb-true _ _ t) (λ _ z. z) e
+
+-- a time that is told is below the number of states
+pub soonest-fields : (bytes : List ℕ) (l : ℕ) (lent : List ℕ) → Fields (soonestAnswer bytes l lent)
+unfolding soonestAnswer answer
+soonest-fields bytes l lent =
+    record {
+      fit = λ i. cond-ind (λ (a : Answer). value a i ≤ maxField) (eqb (soonestRefusal bytes l lent) 0)
+          (λ t. few (soonest-taken bytes l lent (eqb-true _ _ t)) i)
+          (λ _. zero-le);
+    }
+  where
+    few : (refusal bytes lent ≡ 0) × (leastTime (modelOf bytes) l < statesOf bytes) → (i : ℕ) → getD (leastTime (modelOf bytes) l ∷ []) i 0 ≤ maxField
+    few (taken, h) zero = omega (arith, states-limit (accepted bytes lent taken))
+    few t (suc i) = zero-le
 
 -- ---- words by cases of an answer
 

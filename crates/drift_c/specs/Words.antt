@@ -19,7 +19,7 @@ value a i = getD (a .values) i 0
 unfoldable pub judgeWord : Answer → ℕ
 judgeWord a = a .number + 2 ^ 8 * value a 0 + 2 ^ 16 * value a 1 + 2 ^ 40 * value a 2
 
--- number + 2^16 · a count, of states or of bytes
+-- number + 2^16 · a count, of states, of bytes or of units of time
 unfoldable pub countWord : Answer → ℕ
 countWord a = a .number + 2 ^ 16 * value a 0
 

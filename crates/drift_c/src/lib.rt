@@ -11,10 +11,12 @@ ghost use Rattle.op_margin.specs.Margin.{marginAnswer, toleranceAnswer};
 ghost use Rattle.op_plan.specs.Plan.{planAnswer, planOutput};
 ghost use Rattle.op_sheet_margin.specs.SheetMargin.{sheetMarginAnswer, boundAnswer};
 ghost use Rattle.op_harm.specs.Harm.{harmAnswer, onsetAnswer};
+ghost use Rattle.op_soonest.specs.Sounding.{soonestAnswer, arrivalAnswer};
 ghost use Rattle.op_write.specs.Write.{writeAnswer, writeOutput, writtenAnswer};
 ghost use Rattle.number.specs.Shortest.{readSpelled, numberIn};
 ghost use Rattle.spelling.specs.Calls.{storedAnswer};
 ghost use Rattle.drift_c.specs.Words.{judgeWord, countWord, checkWord, writeWord, numberWord, marginWord, harmWord, harmOut, maxField, Fields, StatesFit, BytesFit, StoredFit, SmallValue};
+use drift::Arrival;
 use drift::Bound;
 use drift::Evidence;
 use drift::Judgement;
@@ -103,6 +105,16 @@ fn stored_word(answer: Stored) -> u64
     match answer {
         Stored::Bytes(bytes) => bytes as u64 * AT_STATES,
         Stored::Refused(number) => number as u64,
+    }
+}
+
+fn time_word(answer: Arrival) -> u64
+    requires { ⌜ Fields (arrivalAnswer answer) ⌝ }
+    ensures { λ r. ⌜ r ≡ countWord (arrivalAnswer answer) ⌝ }
+{
+    match answer {
+        Arrival::Time(units) => units as u64 * AT_STATES,
+        Arrival::Refused(number) => number as u64,
     }
 }
 
@@ -323,6 +335,29 @@ pub extern "C" fn drift_write_plan(model: &[u8], out: &mut [u8]) -> u64
 {
     let answer = drift::write_plan(model, out);
     stored_word(answer)
+}
+
+// number + 2^16 · units
+#[no_mangle]
+pub extern "C" fn drift_soonest(
+    model: &[u8],
+    location: u64,
+    s1: &mut [Word],
+    s2: &mut [Word],
+    s3: &mut [Word],
+    s4: &mut [Word],
+) -> u64
+    ensures { λ r. ⌜
+        r
+        ≡ countWord (soonestAnswer (now (model .entry)) location (lengths (now (s1 .entry)) (now (s2 .entry)) (now (s3 .entry)) (now (s4 .entry))))
+        ⌝ }
+    ensures { λ _. ⌜
+        ScratchLeft (now (model .entry)) (now (s1 .entry)) (now (s2 .entry)) (now (s3 .entry)) (now (s4 .entry))
+        (now (s1 .exit)) (now (s2 .exit)) (now (s3 .exit)) (now (s4 .exit))
+        ⌝ }
+{
+    let answer = drift::soonest(model, location, s1, s2, s3, s4);
+    time_word(answer)
 }
 
 // number + 2^8 · value + 2^31 · padded (0 shortest, 1 padded) + 2^32 · next

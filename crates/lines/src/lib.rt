@@ -5,6 +5,9 @@ ghost use Prim.Native.Nat.{_+_, _≤_, min};
 ghost use lib.ListN.{length};
 ghost use Rattle.io.specs.Counts.{Counts};
 
+// The greatest number of a field.
+const MAX: u64 = 18446744073709551615;
+
 // Where the line that begins at an offset ends.
 pub fn line_end(text: &[u8], at: usize) -> usize
     requires { ⌜ at ≤ length (now text) ⌝ }
@@ -89,16 +92,24 @@ fn apart(c: u8) -> usize
     if c == b',' { 1 } else { 0 }
 }
 
+// A number with one more decimal digit, or the greatest where there may be no room for it.
+fn lengthened(value: u64, digit: u8) -> u64 {
+    if MAX / 10 - 1 < value {
+        return MAX;
+    }
+    value * 10 + digit as u64 % 16
+}
+
 // The number of a field with one more character, if that is a digit of this field.
-fn read_on(value: u16, c: u8, here: bool) -> u16 {
+fn read_on(value: u64, c: u8, here: bool) -> u64 {
     if apart(c) == 1 {
         return value;
     }
-    if here { extended(value, c) } else { value }
+    if here { lengthened(value, c) } else { value }
 }
 
 // The number in field k of a line, fields being set apart by a space or a comma; or another one, if the line has fewer fields.
-pub fn field(line: &[u8], k: usize, otherwise: u16) -> u16 {
+pub fn field(line: &[u8], k: usize, otherwise: u64) -> u64 {
     let mut value = 0;
     let mut at = 0;
     let mut i = 0;

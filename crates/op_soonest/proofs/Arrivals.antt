@@ -3,14 +3,16 @@ use Prim.Native.Nat.{ℕ, _≤_, _<_}
 use mathlib.Core.Path.{_≡_, refl}
 use mathlib.Core.Bool.{Bool, true, false, _&&_}
 use mathlib.Core.List.{List, [], _∷_}
-use lib.Dec.{ltb}
-use borrow.Author.Tests.{ne-eqb, lt-ltb, le-ltb}
+use native.Mathlib.Omega.{arith}
+use lib.Dec.{eqb, ltb}
+use borrow.Author.Tests.{eqb-true, eqb-false, ne-eqb, ltb-true, lt-ltb, le-ltb}
+use Rattle.theory.proofs.Below.{and-right, cond-ind}
 use Rattle.model.specs.declared.Model.{Model}
 use Rattle.graph.specs.States.{states}
 use Rattle.least_time.specs.Model.{leastTime}
 use Rattle.op_soonest.specs.declared.Arrival.the-variants.{Time, Refused}
 use Rattle.number.specs.Answer.{answer}
-use Rattle.call.specs.Call.{modelOf, refusal}
+use Rattle.call.specs.Call.{modelOf, statesOf, refusal}
 use Rattle.op_soonest.specs.Sounding.{unreached, soonestRefusal, soonestAnswer, arrivalAnswer}
 
 false-right : (b : Bool) → (b && false) ≡ false
@@ -52,3 +54,16 @@ module _ (bytes : List ℕ) (l : ℕ) (lent : List ℕ) where
   pub soonest-done : refusal bytes lent ≡ 0 → soonestAnswer bytes l lent ≡ answer (unreached (modelOf bytes) l) (leastTime (modelOf bytes) l ∷ [])
   unfolding soonestAnswer soonestRefusal
   soonest-done is = simp is refl
+
+  -- where a time is told, the call is admitted and the time is below the number of states
+  pub soonest-taken : soonestRefusal bytes l lent ≡ 0 → (refusal bytes lent ≡ 0) × (leastTime (modelOf bytes) l < statesOf bytes)
+  unfolding soonestRefusal unreached
+  soonest-taken =
+      let m = modelOf bytes in
+      cond-ind (λ (r : ℕ). r ≡ 0 → (refusal bytes lent ≡ 0) × (leastTime m l < states m)) (eqb (refusal bytes lent) 0)
+      (λ t z. (
+        eqb-true _ _ t,
+        cond-ind (λ (r : ℕ). r ≡ 0 → leastTime m l < states m) (ltb l (m .locations) && ltb (leastTime m l) (states m))
+            (λ b _. ltb-true (leastTime m l) (states m) (and-right (ltb l (m .locations)) (ltb (leastTime m l) (states m)) b)) (λ _ x. absurd (omega arith)) z,
+      ))
+      (λ f z. absurd (eqb-false _ _ f z))

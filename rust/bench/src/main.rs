@@ -78,6 +78,10 @@ impl Buffers {
         drift::harm(model, self.scratch.lend()).expect("an accepted model")
     }
 
+    fn soonest(&mut self, model: &[u8], location: u64) -> Result<u64, drift::Refusal> {
+        drift::soonest(model, location, self.scratch.lend())
+    }
+
     fn marks(&mut self, model: &[u8]) -> usize {
         drift::marks(model, self.scratch.lend(), &mut self.output).expect("an accepted model")
     }
@@ -105,6 +109,7 @@ fn main() {
     print_ratios(&means);
     print_growth(&means);
     print_plans();
+    print_times();
     if let Some(folder) = std::env::args().nth(1) {
         draw(Path::new(&folder), &means);
     }
@@ -194,6 +199,46 @@ fn print_plans() {
         let (bytes, ratio) = (model.len(), ours / theirs);
         println!("{bytes:>7} {ours:>9.2} {theirs:>9.2} {ratio:>6.2}");
     }
+}
+
+/// The least time to every location of a plan, by the states: the mean of a
+/// call and the slowest one.
+fn print_times() {
+    println!();
+    println!("least times: microseconds of a call, the mean over all locations of {MODELS} models and the slowest");
+    println!(
+        "{:>7} {:>6} {:>9} {:>9} {:>6} {:>9} {:>9}",
+        "states", "class", "ours", "second", "ratio", "slowest", "second"
+    );
+    for size in SIZES {
+        for class in classes(size) {
+            print_time(size, class);
+        }
+    }
+}
+
+fn print_time(size: Size, class: Class) {
+    let (clocks, ceiling, locations) = size;
+    let states = states_of(size);
+    let mut buffers = Buffers::new(states);
+    let mut calls = Vec::new();
+    for seed in 0..MODELS {
+        let model = generate_sized(seed, clocks, u32::from(ceiling), locations, class);
+        for location in 0..locations as u64 {
+            let times = both(
+                || buffers.soonest(&model, location),
+                || second::soonest(&model, location, [states; 4]),
+            );
+            calls.push(times.map(|time| time.as_secs_f64() * 1e6));
+        }
+    }
+    let of = |at: usize| calls.iter().map(move |times| times[at]);
+    let [ours, theirs] = [0, 1].map(|at| of(at).sum::<f64>() / calls.len() as f64);
+    let [slow, slow_theirs] = [0, 1].map(|at| of(at).fold(0.0, f64::max));
+    let (class, ratio) = (format!("{class:?}").to_lowercase(), ours / theirs);
+    println!(
+        "{states:>7} {class:>6} {ours:>9.1} {theirs:>9.1} {ratio:>6.2} {slow:>9.1} {slow_theirs:>9.1}"
+    );
 }
 
 fn states_of((clocks, ceiling, locations): Size) -> usize {

@@ -19,7 +19,7 @@ fn past_eight(model: &[u8], lengths: [usize; 4]) -> Option<usize> {
 fn call<T>(
     model: &[u8],
     lent: &Lent,
-    call: fn(&[u8], drift::Scratch) -> Result<T, drift::Refusal>,
+    call: impl FnOnce(&[u8], drift::Scratch) -> Result<T, drift::Refusal>,
 ) -> Result<Result<T, u8>, String> {
     let copy = model.to_vec();
     let zeroed = past_eight(model, lent.lengths());
@@ -68,6 +68,13 @@ pub fn harm_alike(model: &[u8], lent: &Lent) -> Result<Result<Harm, u8>, String>
         },
     });
     same(second::harm(model, lent.lengths()), got)
+}
+
+pub fn soonest_alike(model: &[u8], location: u64, lent: &Lent) -> Result<Result<u64, u8>, String> {
+    let got = call(model, lent, |model, scratch| {
+        drift::soonest(model, location, scratch)
+    })?;
+    same(second::soonest(model, location, lent.lengths()), got)
 }
 
 pub fn marks_alike(

@@ -11,6 +11,7 @@ mod pieces;
 mod plans;
 mod remarked;
 mod rows;
+mod soonest;
 mod tally;
 
 use alike::{check_alike, marks_alike, numbers_alike, write_alike};
@@ -22,6 +23,7 @@ use remarked::remarked_alike;
 use rows::long;
 use second::generate::{generate, KINDS};
 use second::random::Random;
+use soonest::soonest_all_alike;
 use std::process::ExitCode;
 use tally::Tally;
 
@@ -105,6 +107,7 @@ fn agree(
         .map(|model| second::calls::states_of(&model))
         .unwrap_or(20);
     answered(model, random, states, tally).map_err(about_model)?;
+    soonest_all_alike(model, random, states, tally).map_err(about_model)?;
     plans_alike(model, random, tally).map_err(|what| about_model(format!("plan: {what}")))?;
     remarked_alike(model, random, states, tally)
         .map_err(|what| about_model(format!("other mark: {what}")))?;

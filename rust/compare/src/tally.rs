@@ -1,6 +1,6 @@
 //! How often each answer came up.
 
-use second::refusal::{LAST, OUTPUT_TOO_SHORT, SCRATCH_TOO_SHORT};
+use second::refusal::{LAST, NEVER_THERE, OUTPUT_TOO_SHORT, SCRATCH_TOO_SHORT};
 use second::{Harm, Judgement, SheetMargin};
 use std::collections::BTreeMap;
 use std::fmt;
@@ -74,11 +74,30 @@ struct Harms {
     rate: u64,
 }
 
+/// The least times told, the greatest, and the calls that told none.
+#[derive(Default)]
+struct Times {
+    count: u64,
+    greatest: u64,
+    unreached: u64,
+    refused: u64,
+}
+
 /// Accepted plans of a mark, and how many get another verdict in the other.
 #[derive(Default)]
 struct Marked {
     count: u64,
     turned: u64,
+}
+
+impl fmt::Display for Times {
+    fn fmt(&self, f: &mut fmt::Formatter) -> fmt::Result {
+        write!(
+            f,
+            "times: {}, greatest {}, none {}, refused 1 to 8 {}",
+            self.count, self.greatest, self.unreached, self.refused
+        )
+    }
 }
 
 #[derive(Default)]
@@ -92,6 +111,7 @@ pub struct Tally {
     plans: Plans,
     margins: Margins,
     harms: Harms,
+    times: Times,
     /// Sheets and trails written.
     written: [Written; 2],
     /// Calls of the writer by the refusal.
@@ -146,6 +166,18 @@ impl Tally {
         }
     }
 
+    pub fn soonest(&mut self, answer: &Result<u64, u8>) {
+        let times = &mut self.times;
+        match answer {
+            Ok(time) => {
+                times.count += 1;
+                times.greatest = times.greatest.max(*time);
+            }
+            Err(NEVER_THERE) => times.unreached += 1,
+            Err(_) => times.refused += 1,
+        }
+    }
+
     pub fn written(&mut self, answer: &Result<(bool, Vec<u8>), u8>) {
         match answer {
             Ok((is_unsafe, bytes)) => self.written[usize::from(*is_unsafe)].add(bytes),
@@ -193,6 +225,7 @@ impl fmt::Display for Tally {
             f,
             "harms: {count}, greatest base {base}, greatest rate {rate}"
         )?;
+        writeln!(f, "{}", self.times)?;
         let [sheets, trails] = &self.written;
         writeln!(f, "sheets written: {sheets}")?;
         writeln!(f, "trails written: {trails}")?;
@@ -204,7 +237,10 @@ impl fmt::Display for Tally {
             self.passed[1], self.passed[2]
         )?;
         for (refusal, count) in self.refused.iter().enumerate().skip(1) {
-            if refusal != usize::from(OUTPUT_TOO_SHORT) {
+            if ![OUTPUT_TOO_SHORT, NEVER_THERE]
+                .map(usize::from)
+                .contains(&refusal)
+            {
                 writeln!(f, "  refused {refusal}: {count}")?;
             }
         }

@@ -8,27 +8,27 @@ use std::ops::Range;
 pub type Word = u16;
 
 /// Declares functions of the library and makes a safe function of each. What
-/// they take comes in this order: bytes to read, scratch, what is written to,
-/// plain numbers. A slice goes over as a pointer and a length.
+/// they take comes in this order: bytes to read, a plain number, scratch, what
+/// is written to. A slice goes over as a pointer and a length.
 macro_rules! foreign {
     ($(fn $name:ident(
         $(read $read:ident),+
+        $(, number $number:ident: $whole:ty)?
         $(, scratch [$($scratch:ident),+])?
         $(, write $write:ident: $element:ty)?
-        $(, number $number:ident)?
     ) -> $answer:ty;)+) => {$(
         pub fn $name(
             $($read: &[u8],)+
+            $($number: $whole,)?
             $([$($scratch),+]: Scratch,)?
             $($write: &mut [$element],)?
-            $($number: usize,)?
         ) -> $answer {
             extern "C" {
                 fn $name(
                     $($read: *const u8, _: usize,)+
+                    $($number: $whole,)?
                     $($($scratch: *mut Word, _: usize,)+)?
                     $($write: *mut $element, _: usize,)?
-                    $($number: usize,)?
                 ) -> $answer;
             }
             // SAFETY: c/drift.h declares the function so. Each pointer comes
@@ -38,9 +38,9 @@ macro_rules! foreign {
             unsafe {
                 $name(
                     $($read.as_ptr(), $read.len(),)+
+                    $($number,)?
                     $($($scratch.as_mut_ptr(), $scratch.len(),)+)?
                     $($write.as_mut_ptr(), $write.len(),)?
-                    $($number,)?
                 )
             }
         }
@@ -53,7 +53,8 @@ foreign! {
     fn drift_check_evidence(read model, read evidence, scratch [a, b, c, d]) -> u64;
     fn drift_write_evidence(read model, scratch [a, b, c, d], write out: u8) -> u64;
     fn drift_write_plan(read model, write out: u8) -> u64;
-    fn drift_next_number(read bytes, number at) -> u64;
+    fn drift_next_number(read bytes, number at: usize) -> u64;
+    fn drift_soonest(read model, number location: u64, scratch [a, b, c, d]) -> u64;
     fn drift_margin(read model) -> u64;
     fn drift_sheet_margin(read model, scratch [a, b, c, d]) -> u64;
     fn drift_harm(read model, scratch [a, b, c, d], write out: u64) -> u64;
@@ -73,6 +74,8 @@ pub const STATES: Range<u32> = 16..40;
 pub const COUNT: Range<u32> = 40..64;
 /// A: every drift below 1/A of a unit is harmless.
 pub const MARGIN: Range<u32> = 40..64;
+/// The least time, in units.
+pub const UNITS: Range<u32> = 16..40;
 /// The bytes written, of evidence or of a plan.
 pub const WRITTEN: Range<u32> = 16..64;
 /// The number that was read.

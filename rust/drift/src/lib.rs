@@ -177,3 +177,11 @@ pub fn harm(model: &[u8], scratch: Scratch) -> Result<Harm, Refusal> {
         Verdict::Unsafe => Harm::Within { states, base, rate },
     })
 }
+
+/// The least time, in units, from the start to a location with perfect clocks:
+/// some run on whole times takes just that long, and no run takes less, on
+/// whatever times. `Unreached` where no run gets there, and for a number that is
+/// no location's.
+pub fn soonest(model: &[u8], location: u64, scratch: Scratch) -> Result<u64, Refusal> {
+    accepted(drift_soonest(model, location, scratch)).map(|answer| field(answer, UNITS))
+}

@@ -3,7 +3,7 @@
 use std::error::Error;
 use std::fmt;
 
-/// A refusal of document 01, or 15 of document 02, by its number there.
+/// A refusal of document 01, or 15 or 16 of document 02, by its number there.
 #[derive(Clone, Copy, Debug, PartialEq, Eq, PartialOrd, Ord, Hash)]
 #[repr(u8)]
 pub enum Refusal {
@@ -22,13 +22,14 @@ pub enum Refusal {
     BadStep,
     EndsOrdinary,
     Padded,
+    Unreached,
 }
 
 use Refusal::*;
 
 impl Refusal {
     /// All of them, in the order of their numbers from 1 on.
-    pub const ALL: [Refusal; 15] = [
+    pub const ALL: [Refusal; 16] = [
         EndsTooSoon,
         NumberTooLong,
         BadHeader,
@@ -44,9 +45,10 @@ impl Refusal {
         BadStep,
         EndsOrdinary,
         Padded,
+        Unreached,
     ];
 
-    /// 1 to 15.
+    /// 1 to 16.
     pub fn number(self) -> u8 {
         self as u8
     }
@@ -68,6 +70,7 @@ impl Refusal {
             BadStep => "a step of the trail cannot be taken",
             EndsOrdinary => "the trail ends in an ordinary location",
             Padded => "a number of the evidence is not in shortest form",
+            Unreached => "no run with perfect clocks gets to the location, or there is none",
         }
     }
 }
@@ -118,12 +121,12 @@ mod tests {
             assert_eq!(refusal.number(), at);
             assert_eq!(Refusal::try_from(at), Ok(refusal));
         }
-        for other in [0, 16, 255] {
+        for other in [0, 17, 255] {
             assert_eq!(Refusal::try_from(other), Err(NoRefusal(other)));
         }
         assert_eq!(
-            NoRefusal(16).to_string(),
-            "16 is no refusal; they are numbered 1 to 15"
+            NoRefusal(17).to_string(),
+            "17 is no refusal; they are numbered 1 to 16"
         );
     }
 

@@ -2,6 +2,7 @@
 
 use crate::bytes::encode;
 use crate::flaw::{Flaw, Numbers};
+use crate::mistake::range_words;
 use crate::sheet::read_sheet;
 use crate::trail::read_trail;
 use crate::{Plan, CEILING_MARK, EDGES_MARK};
@@ -10,7 +11,7 @@ use second::limits::{MAX_CEILING, MAX_CLOCKS, MAX_EDGES, MAX_LOCATIONS};
 use second::numbers::shortest;
 use second::program::SCRATCH;
 use second::refusal::{
-    Refusal, BAD_HEADER, LAST, NO_EVIDENCE, OUTPUT_TOO_SHORT, SCRATCH_TOO_SHORT,
+    Refusal, BAD_HEADER, LAST, NEVER_THERE, NO_EVIDENCE, OUTPUT_TOO_SHORT, SCRATCH_TOO_SHORT,
 };
 use second::sheet::{greatest_number, SHEET};
 use second::trail::TRAIL;
@@ -97,6 +98,12 @@ const REFUSALS: [(&str, &str); LAST as usize] = [
          128, two below 16,384, else three. An empty last byte, 0, makes it too long. Have the \
          evidence written again without padding; a plan may be padded.",
     ),
+    (
+        "no run with perfect clocks gets to the location, or there is none",
+        "The call for the least time alone says so, and neither plan nor evidence is at fault. \
+         Locations are numbered from 0. Where there is such a location, it takes drift to get \
+         there, or not even slight drift gets there.",
+    ),
 ];
 
 fn header_advice() -> String {
@@ -135,6 +142,13 @@ pub fn about(number: Refusal, plan: Result<&Plan, &Flaw>, evidence: Option<&[u8]
             format!(
                 "here: the marks take {states} bytes; a sheet takes at most {sheet}; the plan's \
                  shortest form takes {shortest}\n"
+            )
+        }
+        (NEVER_THERE, _) => {
+            let numbers = range_words(0, plan.locations.len() as u32 - 1);
+            format!(
+                "here: the plan is read without a flaw, and numbers of its locations are \
+                 {numbers}; zervuldo soonest tells which of them have a least time\n"
             )
         }
         (_, None) if number > OUTPUT_TOO_SHORT => {

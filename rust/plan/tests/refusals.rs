@@ -11,14 +11,14 @@ use second::mutate::mutate;
 #[test]
 fn every_refusal_is_explained() {
     let mut seen = std::collections::BTreeSet::new();
-    for number in 1..=15 {
+    for number in 1..=16 {
         let words = refusal_words(number).unwrap();
         assert!(words.starts_with(&format!("refused {number}: ")));
         assert!(words.lines().count() == 2 && words.ends_with(".\n"));
         seen.insert(words);
     }
-    assert_eq!(seen.len(), 15);
-    assert_eq!((refusal_words(0), refusal_words(16)), (None, None));
+    assert_eq!(seen.len(), 16);
+    assert_eq!((refusal_words(0), refusal_words(17)), (None, None));
 }
 
 #[test]
@@ -129,6 +129,13 @@ fn about_a_model() {
         "here: this plan has 15816 states; the programs judge and evidence_bytes lend scratch for \
          4000, so they refuse it\n"
     );
+    for evidence in [None, Some(&[1, 5, 3, 1][..])] {
+        assert_eq!(
+            about(16, Ok(tiny), evidence),
+            "here: the plan is read without a flaw, and numbers of its locations are 0; zervuldo \
+             soonest tells which of them have a least time\n"
+        );
+    }
     assert_eq!(
         about(9, Ok(tiny), None),
         "here: the marks take 3 bytes; a sheet takes at most 4; the plan's shortest form takes 8\n"

@@ -1,6 +1,6 @@
 //! The calls: judge, marks, evidence, check; of document 02 the shortest form of
-//! a plan and the rounds of the marking; and beyond both the margin of our sheet
-//! and the harm of our trail.
+//! a plan, the rounds of the marking and the least time to a location; and beyond
+//! both the margin of our sheet and the harm of our trail.
 //! Scratch is given as the four lengths alone, since this checker uses memory of
 //! its own; they decide only about refusal 8. Output is written on success and
 //! not otherwise.
@@ -16,6 +16,7 @@ use crate::refusal::*;
 use crate::regions::Regions;
 use crate::sheet::our_sheet;
 use crate::shortest_plan::shortest_plan;
+use crate::soonest::least_time;
 use crate::trail::{our_trail, spell_trail, TrailStep};
 
 /// The lengths of the four scratch slices.
@@ -179,6 +180,16 @@ pub fn rounds(model: &[u8]) -> Result<Rounds, Refusal> {
         rounds: levels.len(),
         marked: levels.iter().map(Vec::len).sum(),
     })
+}
+
+/// The least time, in units, in which a run with perfect clocks gets to a
+/// location. The number is tested whole, before it is used as one of ours.
+pub fn soonest(model: &[u8], location: u64, scratch: Scratch) -> Result<u64, Refusal> {
+    let graph = accept(model, scratch)?;
+    if location >= graph.model.locations.len() as u64 {
+        return Err(NEVER_THERE);
+    }
+    least_time(&graph, location as usize).ok_or(NEVER_THERE)
 }
 
 /// The margin of the sheet that we write for a safe model.

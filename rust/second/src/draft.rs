@@ -122,7 +122,7 @@ impl Draft {
     }
 
     /// Adds random edges, as far as the limit allows.
-    fn add_random_edges(&mut self, random: &mut Random, count: usize) {
+    pub fn add_random_edges(&mut self, random: &mut Random, count: usize) {
         let locations = self.kinds.len();
         for _ in 0..count {
             let mask = random.below(1 << self.clocks) as u32;
@@ -162,7 +162,7 @@ impl Draft {
 
     /// Spells out some invariants, as the ceiling or as what a blank field
     /// means; narrows some if asked to.
-    fn vary_stays(&mut self, random: &mut Random, narrow: bool) {
+    pub fn vary_stays(&mut self, random: &mut Random, narrow: bool) {
         let blanks = self.spelt_out_blanks().concat();
         for (stay, blank) in self.stays.iter_mut().flatten().zip(blanks) {
             if random.one_in(4) {

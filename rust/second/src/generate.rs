@@ -5,7 +5,8 @@
 //! edges close early. The mark is drawn for each. A model of a wanted class
 //! (safe, unsafe only by drift, unsafe with perfect clocks), judged by the
 //! limits that its mark gives, is found by drawing until the class fits, with a
-//! sure drawing at the end.
+//! sure drawing at the end. Models in which time matters most are drawn in a way
+//! of their own, whatever their class.
 
 use crate::blanks::{blank_model, early_draft, is_safe_by_its_mark};
 use crate::calls::states_of;
@@ -19,11 +20,12 @@ use crate::numbers::{numbers_of, shortest, LARGEST};
 use crate::program::SCRATCH;
 use crate::random::Random;
 use crate::refusal::*;
+use crate::slow;
 use std::collections::BTreeMap;
 use std::convert::Infallible;
 
 /// The kinds that `generate` knows.
-pub const KINDS: [&str; 22] = [
+pub const KINDS: [&str; 23] = [
     "safe",
     "drift",
     "plain",
@@ -46,6 +48,7 @@ pub const KINDS: [&str; 22] = [
     "refused-7",
     "refused-8",
     "noise",
+    "slow",
 ];
 
 /// What an accepted model is.
@@ -116,6 +119,7 @@ pub fn generate(seed: u64, kind: &str) -> Option<Vec<u8>> {
         }
         "refused-8" => accepted(random, None, |shape| shape.states() > MIDDLE).bytes(),
         "noise" => noise(random),
+        "slow" => slow_model(random)?.bytes(),
         _ => return None,
     })
 }
@@ -185,6 +189,12 @@ fn accepted(random: &mut Random, class: Option<Class>, wanted: impl Fn(&Shape) -
             draft
         }
     }
+}
+
+/// Of any class.
+fn slow_model(random: &mut Random) -> Option<Draft> {
+    let shape = pick_shape(random, |shape| usual(shape) && slow::has_room(shape))?;
+    Some(slow::slow_draft(random, &shape))
 }
 
 fn padded_model(random: &mut Random) -> Vec<u8> {

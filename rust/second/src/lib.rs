@@ -6,8 +6,9 @@
 //! them. `shortest_plan` is request (a) of document 02; request (b), that no
 //! evidence is padded, is in `numbers` and `check`; request (c), what a blank
 //! stay field means in mark 2, is in `model` and `shortest_plan`; request (d),
-//! the rounds of the marking, is in `marking`. Beyond both documents, `margin`
-//! and `harm` tell how slight a drift is harmless and how soon another does harm.
+//! the rounds of the marking, is in `marking`; request (e), the least time to a
+//! location, is `soonest`. Beyond both documents, `margin` and `harm` tell how
+//! slight a drift is harmless and how soon another does harm.
 //! `brute` does everything again by naive definitions, `widened` searches runs
 //! without regions; `generate`, `blanks`, `mutate`, `padding` and `other` make
 //! inputs for comparisons, `cases` those of a proved program with their answers.
@@ -40,12 +41,14 @@ pub mod refusal;
 pub mod regions;
 pub mod sheet;
 pub mod shortest_plan;
+pub mod slow;
+pub mod soonest;
 pub mod trail;
 pub mod widened;
 
 pub use calls::{check_evidence, judge, marks, write_evidence, write_plan, Judgement};
 pub use calls::{harm, sheet_margin, Harm, SheetMargin};
-pub use calls::{rounds, Rounds};
+pub use calls::{rounds, soonest, Rounds};
 pub use model::{read_model, read_plan, Edge, Location, Model, Reading};
 pub use numbers::{number_at, spelled_at, Spelled};
 pub use refusal::Refusal;

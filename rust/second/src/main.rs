@@ -8,9 +8,10 @@ use second::generate::{generate, shares, KINDS};
 use second::mutate;
 use second::program::{bytes_of_text, evidence_bytes, marks_bytes, shortest_bytes};
 use second::program::{harm_lines, judge_lines, margin_lines};
-use second::program::{refusal_line, OUTPUT, SCRATCH};
+use second::program::{refusal_line, soonest_line, OUTPUT, SCRATCH};
 use std::io::{Read, Write};
 use std::process::ExitCode;
+use std::str::FromStr;
 
 fn usage() -> String {
     format!(
@@ -20,6 +21,7 @@ second evidence FILE|- [SCRATCH]         evidence bytes, or the refusal line
 second marks FILE|- [SCRATCH]            one byte per state, 1 or 0, or the refusal line
 second margin FILE|- [SCRATCH]           three lines with our sheet's margin, or the refusal line
 second harm FILE|- [SCRATCH]             three lines with our trail's harm, or the refusal line
+second soonest FILE|- LOCATION [SCRATCH] the least time to a location, or the refusal line
 second check MODEL EVIDENCE [SCRATCH]    passes 1, passes 2, or the refusal line
 second shortest FILE|- [--output N]      the model's shortest bytes, or the refusal line
 second generate SEED KIND                a model's bytes
@@ -58,7 +60,7 @@ fn run(mut arguments: Vec<String>) -> Result<Vec<u8>, String> {
     // A last argument may give the scratch length too.
     let files = match words.first() {
         Some(&("judge" | "evidence" | "marks" | "margin" | "harm" | "answers")) => 1,
-        Some(&"check") => 2,
+        Some(&("check" | "soonest")) => 2,
         _ => usize::MAX,
     };
     if words.len().checked_sub(2) == Some(files) {
@@ -70,6 +72,9 @@ fn run(mut arguments: Vec<String>) -> Result<Vec<u8>, String> {
         ["marks", file] => Ok(marks_bytes(&read(file)?, scratch, output)),
         ["margin", file] => Ok(margin_lines(&read(file)?, scratch).into_bytes()),
         ["harm", file] => Ok(harm_lines(&read(file)?, scratch).into_bytes()),
+        ["soonest", file, location] => {
+            Ok(soonest_line(&read(file)?, number(location)?, scratch).into_bytes())
+        }
         ["check", model, evidence] => {
             Ok(check_line(&read(model)?, &read(evidence)?, scratch).into_bytes())
         }
@@ -77,10 +82,7 @@ fn run(mut arguments: Vec<String>) -> Result<Vec<u8>, String> {
         ["generate", rest @ ..] => generated(rest),
         ["mutate", rest @ ..] => mutated(rest),
         ["cases"] => Ok(cases().into_bytes()),
-        ["answers", file] => {
-            let text = String::from_utf8(read(file)?).map_err(|_| format!("{file}: not text"))?;
-            Ok(answers(&text, scratch)?.into_bytes())
-        }
+        ["answers", file] => answered(file, scratch),
         ["bench"] => {
             bench(|line| println!("{line}"));
             Ok(Vec::new())
@@ -96,13 +98,19 @@ fn check_line(model: &[u8], evidence: &[u8], scratch: usize) -> String {
     }
 }
 
+fn answered(file: &str, scratch: usize) -> Result<Vec<u8>, String> {
+    let text = String::from_utf8(read(file)?).map_err(|_| format!("{file}: not text"))?;
+    Ok(answers(&text, scratch)?.into_bytes())
+}
+
 fn generated(words: &[&str]) -> Result<Vec<u8>, String> {
     match words {
         ["--kinds"] => Ok(KINDS.map(|kind| format!("{kind}\n")).concat().into_bytes()),
         ["--shares"] => Ok(shares(1_000).into_bytes()),
         ["--shares", count] => Ok(shares(number(count)?).into_bytes()),
-        [seed, kind] => generate(number(seed)? as u64, kind)
-            .ok_or(format!("no kind {kind}; see generate --kinds")),
+        [seed, kind] => {
+            generate(number(seed)?, kind).ok_or(format!("no kind {kind}; see generate --kinds"))
+        }
         _ => Err(usage()),
     }
 }
@@ -114,12 +122,12 @@ fn mutated(words: &[&str]) -> Result<Vec<u8>, String> {
             .concat()
             .into_bytes()),
         [seed, model, evidence] => {
-            Ok(mutate::mutate(number(seed)? as u64, &read(model)?, &read(evidence)?).1)
+            Ok(mutate::mutate(number(seed)?, &read(model)?, &read(evidence)?).1)
         }
         [seed, model, evidence, kind] => {
-            mutate::mutate_as(number(seed)? as u64, kind, &read(model)?, &read(evidence)?).ok_or(
-                format!("the change {kind} does not apply; see mutate --kinds"),
-            )
+            mutate::mutate_as(number(seed)?, kind, &read(model)?, &read(evidence)?).ok_or(format!(
+                "the change {kind} does not apply; see mutate --kinds"
+            ))
         }
         _ => Err(usage()),
     }
@@ -138,7 +146,7 @@ fn take_flag(arguments: &mut Vec<String>, flag: &str) -> Result<Option<usize>, S
     Ok(Some(value))
 }
 
-fn number(word: &str) -> Result<usize, String> {
+fn number<T: FromStr>(word: &str) -> Result<T, String> {
     word.parse().map_err(|_| format!("not a number: {word}"))
 }
 

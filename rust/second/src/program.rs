@@ -1,8 +1,8 @@
-//! The two programs of document 01, what the command tells of drift or writes
-//! besides, and the text form of byte files.
+//! The two programs of document 01, what the command tells of drift and of the
+//! least time or writes besides, and the text form of byte files.
 
-use crate::calls::{harm, judge_and_write, marks, sheet_margin, write_evidence, write_plan};
-use crate::calls::{Harm, Judgement, SheetMargin};
+use crate::calls::{harm, judge_and_write, marks, sheet_margin, soonest};
+use crate::calls::{write_evidence, write_plan, Harm, Judgement, SheetMargin};
 use crate::refusal::Refusal;
 
 /// What the programs lend unless told otherwise.
@@ -52,6 +52,14 @@ pub fn harm_lines(model: &[u8], scratch: usize) -> String {
             let jumps = format!("jumps {} + {} q", bound.base, bound.rate);
             lines(true, states, &jumps)
         }
+        Err(refusal) => refusal_line(refusal),
+    }
+}
+
+/// The least time to a location, or the refusal line.
+pub fn soonest_line(model: &[u8], location: u64, scratch: usize) -> String {
+    match soonest(model, location, [scratch; 4]) {
+        Ok(time) => format!("time {time}\n"),
         Err(refusal) => refusal_line(refusal),
     }
 }

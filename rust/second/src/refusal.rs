@@ -1,5 +1,5 @@
-//! The refusals of document 01, by the number that a call returns, and 15 of
-//! request (b) of document 02.
+//! The refusals of document 01, by the number that a call returns, and of
+//! document 02: 15 of request (b) and 16 of request (e).
 
 pub type Refusal = u8;
 
@@ -34,6 +34,8 @@ pub const ENDS_ORDINARY: Refusal = 14;
 /// A number of the evidence is not in shortest form. Tested just after 2 for
 /// that number; models may be padded.
 pub const PADDED: Refusal = 15;
+/// There is no such location, or no run gets there.
+pub const NEVER_THERE: Refusal = 16;
 
 /// They are numbered from 1 to this.
-pub const LAST: Refusal = PADDED;
+pub const LAST: Refusal = NEVER_THERE;

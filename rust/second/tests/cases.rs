@@ -5,6 +5,7 @@ mod common;
 
 use common::{LOOP, LOOP_TRAIL};
 use second::blanks::with_mark;
+use second::brute::read::read;
 use second::brute::{spellings, Brute};
 use second::calls::states_of;
 use second::cases::rules::{broken_rules, Rule, RULES};
@@ -73,14 +74,15 @@ fn every_answer_comes_up() {
     let pieces: Vec<_> = plans.iter().flat_map(|(_, pieces)| pieces).collect();
     assert!(pieces.len() >= 60);
     let seen: BTreeSet<&str> = pieces.iter().map(|(_, answer)| answer.as_str()).collect();
-    let wanted = (1..=LAST).filter(|&refusal| refusal != 9);
+    let wanted = (1..=LAST).filter(|refusal| ![9, 16].contains(refusal));
     let mut wanted: BTreeSet<String> = wanted.map(|refusal| refusal.to_string()).collect();
     wanted.extend(["0 1".into(), "0 2".into()]);
     assert_eq!(seen, wanted.iter().map(String::as_str).collect());
 }
 
 /// Each operation gives each answer that it has: both verdicts, refusals up
-/// to 7, 8 if it is lent scratch, 9 if it is lent output, and no other.
+/// to 7, 8 if it is lent scratch, 9 if it is lent output, 16 if it is asked for
+/// a location, and no other.
 #[test]
 fn every_answer_of_an_operation_comes_up() {
     let all = all_answered();
@@ -100,6 +102,7 @@ fn every_answer_of_an_operation_comes_up() {
         ("plan", &[9]),
         ("margin", &[]),
         ("rounds", &[]),
+        ("soonest", &[8, 16]),
     ] {
         for number in 0..=LAST {
             let expected = number <= 7 || beyond_7.contains(&number);
@@ -296,6 +299,84 @@ fn the_brute_force_route_counts_alike() {
     assert!(counted >= 50);
 }
 
+/// A plan, the location that is asked for, its scratch, and the answer.
+type Asked = (Vec<u8>, u64, String, String);
+
+fn asked() -> Vec<Asked> {
+    let all = all_answered()
+        .into_iter()
+        .filter_map(|(model, line, answer)| {
+            let rest = line.strip_prefix("soonest ")?;
+            let (location, scratch) = rest.split_once(' ').unwrap_or((rest, ""));
+            Some((
+                model,
+                location.parse().unwrap(),
+                scratch.to_string(),
+                answer,
+            ))
+        });
+    all.collect()
+}
+
+/// The least times by runs on whole units and on halves; 16 where there are
+/// none. Scratch is zero as far as the states go.
+#[test]
+fn the_brute_force_route_is_as_soon() {
+    let (mut soon, mut never) = (0, 0);
+    for (model, location, _, answer) in asked() {
+        let (number, zero) = answer.split_once(", zero ").unwrap();
+        let states = match read_model(&model) {
+            Ok(model) if number != "8" => states_of(&model),
+            _ => 0,
+        };
+        assert_eq!(zero, [states; 4].map(|count| count.to_string()).join(" "));
+        if states == 0 {
+            continue;
+        }
+        let plan = read(&model).unwrap();
+        let at = |times: Vec<Option<u32>>| times.get(usize::try_from(location).ok()?).copied()?;
+        let (whole, halves) = (at(plan.least_times(1)), at(plan.least_times(2)));
+        assert_eq!(whole.map(|time| 2 * time), halves, "{model:?}");
+        let words = whole.map_or("16".to_string(), |time| format!("0 {time}"));
+        assert_eq!(number, words, "{location} {model:?}");
+        soon += usize::from(whole.is_some());
+        never += usize::from(whole.is_none());
+    }
+    assert!(soon >= 300 && never >= 60, "{soon} {never}");
+}
+
+/// Numbers beyond L that a shorter number would take for a location; scratch
+/// that is too short in each slice, with and without such a number.
+#[test]
+fn locations_and_scratch() {
+    let all = asked();
+    for bits in [8, 16, 32, 63] {
+        let cut = |location: u64| location % (1 << bits);
+        let is_cut = |(model, location, _, answer): &&Asked| {
+            let locations = read_model(model).map_or(0, |model| model.locations.len());
+            answer.starts_with("16,")
+                && cut(*location) < locations as u64
+                && cut(*location) != *location
+        };
+        let cut: BTreeSet<u64> = all
+            .iter()
+            .filter(is_cut)
+            .map(|asked| cut(asked.1))
+            .collect();
+        assert!(cut.contains(&0) && cut.contains(&1), "{bits}");
+    }
+    for slice in 0..4 {
+        for beyond in [false, true] {
+            assert!(all.iter().any(|(model, location, scratch, answer)| {
+                let states = read_model(model).map_or(0, |model| states_of(&model));
+                let lengths: Vec<usize> = scratch.split(',').flat_map(str::parse).collect();
+                let short = (0..lengths.len()).filter(|&at| lengths[at] < states);
+                short.eq([slice]) && (*location > 7) == beyond && answer.starts_with("8,")
+            }));
+        }
+    }
+}
+
 /// The accepted plans whose rounds are counted.
 fn counted_graphs() -> Vec<Graph> {
     let mut all = all_answered();
@@ -370,7 +451,7 @@ fn plans_of_both_marks() {
             differs.insert(word);
         }
     }
-    let words = BTreeSet::from(["judge", "marks", "margin", "plan", "1"]);
+    let words = BTreeSet::from(["judge", "marks", "margin", "plan", "soonest", "1"]);
     assert!(words.is_subset(&differs), "{differs:?}");
 }
 
@@ -382,8 +463,10 @@ fn cases_are_those_stored() {
     assert_eq!(stored, cases());
     let printed = include_str!("../../../crates/cases/stdout");
     assert_eq!(printed, answers(stored, SCRATCH).unwrap());
-    // The program reads no more, and no more of a line.
-    assert!(stored.len() <= 65_536);
+    // The program reads no more, and no more of a line. The least times, which
+    // stand last, have so many bytes more.
+    let (before, times) = stored.split_at(stored.find("- pair, soonest\n").unwrap());
+    assert!(before.len() <= 65_536 && times.len() <= 25_000);
     assert!(stored.lines().all(|line| line.split(',').count() <= 1_024));
 }
 

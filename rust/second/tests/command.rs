@@ -88,6 +88,26 @@ fn margin_and_harm() {
 }
 
 #[test]
+fn soonest_times() {
+    for (arguments, input, line) in [
+        (&["-", "0"][..], &LOOP[..], &b"time 0\n"[..]),
+        (&["-", "2"], &LOOP, b"time 1\n"),
+        (&["-", "3"], &LOOP, b"refused 16\n"),
+        (&["-", "18446744073709551615"], &LOOP, b"refused 16\n"),
+        (&["-", "4294967298", "132"], &LOOP, b"refused 16\n"),
+        (&["-", "2", "132"], &LOOP, b"time 1\n"),
+        (&["-", "2", "131"], &LOOP, b"refused 8\n"),
+        (&["-", "4", "--scratch", "131"], &LOOP, b"refused 8\n"),
+        (&["-", "4"], &LOOP[..45], b"refused 1\n"),
+    ] {
+        let arguments = [&["soonest"], arguments].concat();
+        assert_eq!(answer(&arguments, input), line, "{arguments:?}");
+    }
+    let row = file("soonest.plan", b"1,1,1,1; 0,0 # header\n 0,2");
+    assert_eq!(answer(&["soonest", &row, "0"], &[]), b"time 0\n");
+}
+
+#[test]
 fn shortest_plans() {
     let row = b"129,128,0; 1,129,0,1; 0,0 # header\n 0,2 # M+1";
     assert_eq!(answer(&["shortest", &file("row.plan", row)], &[]), ROW);
@@ -177,6 +197,10 @@ fn wrong_arguments() {
         &["judge", "-", "x"],
         &["shortest"],
         &["shortest", "-", "4000"],
+        &["soonest", "-"],
+        &["soonest", "-", "x"],
+        &["soonest", "-", "-1"],
+        &["soonest", "-", "18446744073709551616"],
     ] {
         assert_eq!(second(arguments, &[]).status.code(), Some(2));
     }
@@ -190,7 +214,8 @@ fn cases_and_answers() {
     assert!(printed.contains("\n1,5,3,1: 0 1\n"));
     assert!(printed.contains("\njudge: 0 1 132 8, zero 132 132 132 132\n"));
     let row = b"- row\n1,1,1,1,0,0,0,0\n1,5,3,1\njudge\njudge 3,3,3,3\nmarks 4,3,3,3,3\n\
-        sheet_margin\nsheet_margin 3,3,3,3\nharm 3,3,3,3\nplan\nplan 0\nplan 9\nrounds\n";
+        sheet_margin\nsheet_margin 3,3,3,3\nharm 3,3,3,3\nplan\nplan 0\nplan 9\nrounds\n\
+        soonest 0\nsoonest 0 3,3,3,3\nsoonest 1 3,4,5,6\nsoonest 1 2,3,3,3\n";
     let lent = String::from_utf8(answer(&["answers", "-", "2"], row)).unwrap();
     let lines: Vec<&str> = lent.lines().collect();
     assert_eq!(
@@ -208,12 +233,23 @@ fn cases_and_answers() {
             "plan 0: 9, out",
             "plan 9: 0 8, out 1,1,1,1,0,0,0,0,7",
             "rounds: 0 3 3",
+            "soonest 0: 8, zero 0 0 0 0",
+            "soonest 0 3,3,3,3: 0 0, zero 3 3 3 3",
+            "soonest 1 3,4,5,6: 16, zero 3 3 3 3",
+            "soonest 1 2,3,3,3: 8, zero 0 0 0 0",
         ]
     );
+}
+
+#[test]
+fn wrong_cases() {
     for wrong in [
         &b"- no plan\n"[..],
         b"- row\n1\nmark 3\n",
         b"- row\n1\njudge x\n",
+        b"- row\n1\nsoonest\n",
+        b"- row\n1\nsoonest -1\n",
+        b"- row\n1\nsoonest 18446744073709551616\n",
     ] {
         assert_eq!(second(&["answers", "-"], wrong).status.code(), Some(2));
     }

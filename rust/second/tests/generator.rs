@@ -8,14 +8,14 @@ use second::calls::states_of;
 use second::components::Components;
 use second::generate::{classify, generate, respelled, shares};
 use second::generate::{Class, KINDS, MIDDLE, SMALL, TINY};
-use second::graph::Graph;
+use second::graph::{Graph, JUMP, TIME};
 use second::limits::{MAX_CLOCKS, MAX_STATES};
 use second::marking::{reached, Closure};
 use second::mutate::{self, mutate, mutate_as};
 use second::numbers::numbers_of;
 use second::random::Random;
 use second::refusal::LAST;
-use second::{judge, read_model, read_plan};
+use second::{judge, read_model, read_plan, soonest};
 use std::collections::{BTreeMap, BTreeSet};
 
 fn model(seed: u64, kind: &str) -> second::Model {
@@ -138,6 +138,68 @@ fn forms_of_stays(bytes: &[u8]) -> BTreeSet<(u32, bool, bool, bool)> {
         }
     }
     forms
+}
+
+/// Most have a location that takes longer than the ceiling, many one that takes
+/// three times as long, many one that the fewest jumps do not get to soonest; in
+/// some a location has no time.
+#[test]
+fn slow_models() {
+    let [mut late, mut later, mut never, mut by_more_jumps] = [0; 4];
+    for seed in 0..400 {
+        let bytes = generate(seed, "slow").unwrap();
+        let model = read_model(&bytes).unwrap();
+        assert!(states_of(&model) <= MIDDLE);
+        let time = |location| soonest(&bytes, location, ENOUGH).ok();
+        let times: Vec<Option<u64>> = (0..model.locations.len() as u64).map(time).collect();
+        let last = times.iter().flatten().max().unwrap();
+        late += usize::from(*last > model.ceiling.into());
+        later += usize::from(*last >= 3 * u64::from(model.ceiling));
+        never += usize::from(times.contains(&None));
+        let graph = Graph::new(model);
+        let by_fewest = times_by_fewest_jumps(&graph, &times);
+        by_more_jumps += usize::from(by_fewest != times);
+    }
+    println!("late {late}, later {later}, never {never}, by more jumps {by_more_jumps}");
+    assert!(late >= 200 && later >= 80 && never >= 30 && by_more_jumps >= 100);
+}
+
+/// The least time to each location that has one, of the runs on whole times that
+/// make no more jumps than they must.
+fn times_by_fewest_jumps(graph: &Graph, times: &[Option<u64>]) -> Vec<Option<u64>> {
+    let mut found = vec![None; times.len()];
+    // The states entered by so many jumps, each with the least time.
+    let mut entered = BTreeMap::from([(graph.start, 0)]);
+    while found.iter().flatten().count() < times.iter().flatten().count() {
+        let mut first: BTreeMap<usize, u64> = BTreeMap::new();
+        let mut next: BTreeMap<usize, u64> = BTreeMap::new();
+        for (state, time) in entered {
+            keep_least(&mut first, graph.location_of(state), time);
+            let mut waited = Some(state);
+            for now in time.. {
+                let Some(state) = waited else { break };
+                let jumps = graph.steps(state).iter().filter(|step| step.kind == JUMP);
+                jumps.for_each(|step| keep_least(&mut next, step.to as usize, now));
+                waited = after_time(graph, state).and_then(|state| after_time(graph, state));
+            }
+        }
+        for (at, time) in first {
+            found[at] = found[at].or(Some(time));
+        }
+        entered = next;
+    }
+    found
+}
+
+fn keep_least(times: &mut BTreeMap<usize, u64>, at: usize, time: u64) {
+    let least = times.entry(at).or_insert(time);
+    *least = time.min(*least);
+}
+
+fn after_time(graph: &Graph, state: usize) -> Option<usize> {
+    let mut steps = graph.steps(state).iter();
+    let step = steps.find(|step| step.kind == TIME)?;
+    Some(step.to as usize)
 }
 
 /// All header numbers come up, and marks above 2 as well as 0.

@@ -7,7 +7,7 @@ use common::ENOUGH;
 use second::generate::{generate_sized, Class};
 use second::limits::{MAX_CEILING, MAX_CLOCKS, MAX_LOCATIONS, MAX_STATES};
 use second::program::OUTPUT;
-use second::{check_evidence, harm, judge, rounds, sheet_margin, write_evidence};
+use second::{check_evidence, harm, judge, rounds, sheet_margin, soonest, write_evidence};
 use std::time::{Duration, Instant};
 
 fn within(limit: Duration, sizes: &[(usize, u32, usize, usize)], classes: &[Class]) {
@@ -34,6 +34,9 @@ fn within(limit: Duration, sizes: &[(usize, u32, usize, usize)], classes: &[Clas
                 let begin = Instant::now();
                 assert!(rounds(&model).is_ok());
                 assert!(begin.elapsed() < limit, "rounds");
+                let begin = Instant::now();
+                assert_ne!(soonest(&model, locations as u64 - 1, ENOUGH), Err(8));
+                assert!(begin.elapsed() < limit, "soonest");
             }
         }
     }

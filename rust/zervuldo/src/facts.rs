@@ -28,7 +28,7 @@ impl Facts {
     pub fn story(&self) -> &[u8] {
         match &self.finding {
             Finding::Unsafe(Unsafe {
-                perfect: Perfect::FailsToo { trail },
+                perfect: Perfect::FailsToo { trail, .. },
                 ..
             }) => trail,
             _ => &self.evidence,
@@ -83,7 +83,7 @@ impl Unsafe {
                 base: self.base,
                 rate: self.rate,
             },
-            Perfect::FailsToo { trail } => {
+            Perfect::FailsToo { trail, .. } => {
                 let steps = read_trail(plan, trail).steps;
                 let jumps = steps
                     .iter()
@@ -97,13 +97,21 @@ impl Unsafe {
     }
 }
 
-/// Whether a forbidden location is entered with perfect clocks too.
+/// Whether a forbidden location is entered with perfect clocks too: proved.
 #[derive(Clone, Debug, PartialEq, Eq)]
 pub enum Perfect {
     /// It is: this trail of time and jump steps alone passed the proved check.
-    FailsToo { trail: Vec<u8> },
-    /// A search of all time and jump steps found no way; it is not proved.
+    FailsToo { trail: Vec<u8>, soonest: Soonest },
+    /// No run gets to any of them.
     Clean,
+}
+
+/// The forbidden location that perfect clocks enter soonest, of several the
+/// first, and the least time that it takes.
+#[derive(Clone, Copy, Debug, PartialEq, Eq)]
+pub struct Soonest {
+    pub location: usize,
+    pub units: u64,
 }
 
 /// A run with drift e/D into a forbidden location.

@@ -1,7 +1,7 @@
 //! Facts as JSON, for programs.
 
-use crate::facts::{Example, Facts, Finding, Perfect, Safe, Unsafe, Warning};
-use crate::units::{greatest_error, Drift, Window};
+use crate::facts::{Example, Facts, Finding, Perfect, Safe, Soonest, Unsafe, Warning};
+use crate::units::{greatest_error, nanoseconds, Drift, Window};
 use plan::Plan;
 use std::fmt;
 
@@ -78,7 +78,7 @@ impl Json {
     }
 
     /// A value, or null where there is none.
-    fn or_null<T>(value: Option<T>, json: impl Fn(T) -> Json) -> Json {
+    pub fn or_null<T>(value: Option<T>, json: impl Fn(T) -> Json) -> Json {
         value.map_or(Json::Null, json)
     }
 }
@@ -137,11 +137,6 @@ fn safe_fields(plan: &Plan, safe: &Safe) -> Vec<(&'static str, Json)> {
 
 fn danger_fields(plan: &Plan, danger: &Unsafe) -> Vec<(&'static str, Json)> {
     let name = &plan.locations[danger.location].name;
-    let (clean, proved) = match danger.perfect {
-        Perfect::Clean => (true, false),
-        Perfect::FailsToo { .. } => (false, true),
-    };
-    let perfect = vec![("clean", Json::Bool(clean)), ("proved", Json::Bool(proved))];
     let harm = vec![
         ("base", Json::number(danger.base)),
         ("rate", Json::number(danger.rate)),
@@ -149,7 +144,7 @@ fn danger_fields(plan: &Plan, danger: &Unsafe) -> Vec<(&'static str, Json)> {
     vec![
         ("steps", Json::count(danger.steps)),
         ("location", Json::text(name)),
-        ("perfect_clocks", Json::Object(perfect)),
+        ("perfect_clocks", perfect_json(plan, &danger.perfect)),
         ("harm", Json::Object(harm)),
         (
             "window",
@@ -159,6 +154,36 @@ fn danger_fields(plan: &Plan, danger: &Unsafe) -> Vec<(&'static str, Json)> {
             "example",
             Json::or_null(danger.example.as_ref(), example_json),
         ),
+    ]
+}
+
+fn perfect_json(plan: &Plan, perfect: &Perfect) -> Json {
+    let soonest = match perfect {
+        Perfect::Clean => None,
+        Perfect::FailsToo { soonest, .. } => Some(soonest),
+    };
+    Json::Object(vec![
+        ("clean", Json::Bool(soonest.is_none())),
+        ("proved", Json::Bool(true)),
+        (
+            "soonest",
+            Json::or_null(soonest, |soonest| soonest_json(plan, soonest)),
+        ),
+    ])
+}
+
+fn soonest_json(plan: &Plan, soonest: &Soonest) -> Json {
+    let name = &plan.locations[soonest.location].name;
+    let [units, real] = time_fields(plan, Some(soonest.units));
+    Json::Object(vec![("location", Json::text(name)), units, real])
+}
+
+/// A least time, if there is one, in units and in nanoseconds.
+pub fn time_fields(plan: &Plan, units: Option<u64>) -> [(&'static str, Json); 2] {
+    let real = units.and_then(|units| nanoseconds(plan, units.into()));
+    [
+        ("units", Json::or_null(units, Json::number)),
+        ("ns", Json::or_null(real, Json::Number)),
     ]
 }
 

@@ -1,11 +1,12 @@
 //! The command `zervuldo`: plans judged, checked, drawn and explained.
 //!
-//! Verdicts, evidence and its check, margins, the jumps within which harm comes
-//! and the shortest forms of plans are answers of the proved library (crate
-//! `drift`). What is found by code that is not proved is named so wherever it is
-//! told.
+//! Verdicts, evidence and its check, margins, the jumps within which harm comes,
+//! least times with perfect clocks and the shortest forms of plans are answers of
+//! the proved library (crate `drift`). What is found by code that is not proved
+//! is named so wherever it is told.
 
 pub mod args;
+pub mod arrivals;
 pub mod command;
 pub mod differences;
 pub mod evidence;

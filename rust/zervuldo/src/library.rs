@@ -60,6 +60,23 @@ impl Library {
     pub fn harm(&mut self, model: &[u8]) -> Result<Harm, Refusal> {
         drift::harm(model, self.buffers.lend())
     }
+
+    /// The least time to a location with perfect clocks, in units; none where
+    /// no run gets there.
+    pub fn soonest(&mut self, model: &[u8], location: usize) -> Result<Option<u64>, Refusal> {
+        match drift::soonest(model, location as u64, self.buffers.lend()) {
+            Err(Refusal::Unreached) => Ok(None),
+            answer => answer.map(Some),
+        }
+    }
+}
+
+/// For each location whether drift leads there, by the marks of all states,
+/// which are numbered location by location.
+pub fn entered(marks: &[u8], locations: usize) -> Vec<bool> {
+    let regions = marks.len() / locations;
+    let states = marks.chunks_exact(regions);
+    states.map(|states| states.contains(&1)).collect()
 }
 
 /// The shortest form of a plan. It needs no scratch, and is never longer than

@@ -37,6 +37,35 @@ pub fn columns(rows: &[(String, &str)]) -> String {
     rows.iter().map(row).collect()
 }
 
+/// Lines moved to the right, as those below a heading are.
+pub fn indented(lines: &str) -> String {
+    lines.lines().map(|line| format!("  {line}\n")).collect()
+}
+
+/// Rows under their heads, each column as wide as it must be; in one of them
+/// stand numbers, which end below each other.
+pub fn table<const COLUMNS: usize>(
+    heads: [&str; COLUMNS],
+    numbers: Option<usize>,
+    rows: &[[String; COLUMNS]],
+) -> String {
+    let heads = heads.map(str::to_string);
+    let all = || std::iter::once(&heads).chain(rows);
+    let line = |row: &[String; COLUMNS]| {
+        let cells = row.iter().enumerate().map(|(column, cell)| {
+            let widths = all().map(|row| row[column].chars().count());
+            let width = widths.max().unwrap_or(0);
+            match numbers == Some(column) {
+                true => format!("{cell:>width$}"),
+                false => format!("{cell:<width$}"),
+            }
+        });
+        let cells: Vec<String> = cells.collect();
+        cells.join("  ").trim_end().to_string() + "\n"
+    };
+    all().map(line).collect()
+}
+
 #[cfg(test)]
 mod tests {
     use super::*;
@@ -56,5 +85,11 @@ mod tests {
     fn columns_stand_below_each_other() {
         let rows = [("a".to_string(), "one"), ("long".to_string(), "two")];
         assert_eq!(columns(&rows), "  a     one\n  long  two\n");
+        let rows = [["a", "1", ""], ["long", "10", "end"]];
+        let rows = rows.map(|row| row.map(str::to_string));
+        assert_eq!(
+            table(["x", "n", "last"], Some(1), &rows),
+            "x      n  last\na      1\nlong  10  end\n"
+        );
     }
 }

@@ -1,8 +1,8 @@
 //! Facts told in words: one plan line by line, several as a table.
 
-use crate::facts::{Example, Facts, Finding, Perfect, Safe, Unsafe};
-use crate::text::{counted, wrapped};
-use crate::units::{drift_words, grouped, margin_words, units_words, Drift, Window};
+use crate::facts::{Example, Facts, Finding, Perfect, Safe, Soonest, Unsafe};
+use crate::text::{self, counted, wrapped};
+use crate::units::{drift_words, grouped, margin_words, real_words, Drift, Window};
 use plan::{Plan, EDGES_MARK};
 
 /// Where the words behind a label begin.
@@ -46,11 +46,14 @@ pub fn told(facts: &Facts, evidence: Option<String>) -> String {
     let warnings = facts.warnings.iter();
     lines.extend(warnings.map(|warning| ("warning", warning.words(&facts.plan))));
     lines.extend(trust_lines(facts));
-    let told: String = lines
-        .iter()
-        .map(|(label, words)| wrapped(&format!("  {label}"), INDENT, words))
-        .collect();
-    format!("{}: {}\n{told}", facts.title, facts.verdict())
+    labelled(&format!("{}: {}", facts.title, facts.verdict()), &lines)
+}
+
+/// Lines under a heading.
+pub fn labelled(heading: &str, lines: &[Line]) -> String {
+    let lines = lines.iter();
+    let lines = lines.map(|(label, words)| wrapped(&format!("  {label}"), INDENT, words));
+    format!("{heading}\n{}", lines.collect::<String>())
 }
 
 fn safe_lines(facts: &Facts, safe: &Safe) -> Vec<Line> {
@@ -91,7 +94,7 @@ fn danger_lines(facts: &Facts, danger: &Unsafe) -> Vec<Line> {
         ("meaning", danger_words(&danger.perfect, &place)),
         ("states", facts.states.to_string()),
         ("trail", format!("{} steps into {place}", danger.steps)),
-        ("perfect clocks", perfect_words(&danger.perfect)),
+        ("perfect clocks", perfect_words(plan, &danger.perfect)),
         ("harm", harm_words(plan, danger)),
     ];
     lines.extend(drift_words(plan).map(|words| ("drift", words)));
@@ -113,15 +116,29 @@ fn danger_words(perfect: &Perfect, place: &str) -> String {
     }
 }
 
-/// Whether perfect clocks do harm too, and how that is known.
-pub fn perfect_words(perfect: &Perfect) -> String {
+/// Whether perfect clocks do harm too, and how soon.
+pub fn perfect_words(plan: &Plan, perfect: &Perfect) -> String {
     match perfect {
-        Perfect::FailsToo { .. } => {
-            "fail too: a trail of time and jump steps alone passes the proved check"
-        }
-        Perfect::Clean => "clean: it takes drift to get there (by a search, not proved)",
+        Perfect::FailsToo { soonest, .. } => format!(
+            "fail too: {}; a trail of time and jump steps alone passes the proved check",
+            soonest_words(plan, soonest)
+        ),
+        Perfect::Clean => "clean: it takes drift to get there".to_string(),
     }
-    .to_string()
+}
+
+fn soonest_words(plan: &Plan, soonest: &Soonest) -> String {
+    let place = plan.quoted(soonest.location);
+    match soonest.units {
+        0 => format!("{place} at once"),
+        units => {
+            let (count, real) = (
+                counted(units as usize, "unit"),
+                real_words(plan, units.into()),
+            );
+            format!("{place} after {count} at the soonest{real}")
+        }
+    }
 }
 
 /// Within how many jumps a drift of 1/q does harm.
@@ -142,7 +159,7 @@ pub fn harm_words(plan: &Plan, danger: &Unsafe) -> String {
 /// A run found by search: how long it is, and how long it takes.
 pub fn example_words(plan: &Plan, example: &Example) -> String {
     let (jumps, time) = (grouped(example.jumps.len() as u128), example.units());
-    let real = units_words(plan, time).map_or(String::new(), |words| format!(", {words}"));
+    let real = real_words(plan, time);
     let (drift, time) = (grouped(example.d.into()), grouped(time));
     let whose = match example.is_crystals {
         true => ", which the crystals make,",
@@ -166,21 +183,22 @@ impl Example {
 fn trust_lines(facts: &Facts) -> [Line; 2] {
     let proved = match &facts.finding {
         Finding::Safe(_) => "verdict, states, margin; the sheet passes the proved check",
-        Finding::Unsafe(_) => {
-            "verdict, states, trail, the jumps within which harm comes; the trail passes the \
-             proved check"
-        }
+        Finding::Unsafe(danger) => match danger.perfect {
+            Perfect::Clean => {
+                "verdict, states, trail, that perfect clocks are clean, the jumps before harm and \
+                 those within which it comes; the trail passes the proved check"
+            }
+            Perfect::FailsToo { .. } => {
+                "verdict, states, trail, the units at the soonest, the jumps within which harm \
+                 comes; the trails pass the proved check"
+            }
+        },
     };
     let not_proved = match &facts.finding {
         Finding::Safe(_) => "how crystals make a drift (docs/DRIFT.md argues it)",
-        Finding::Unsafe(Unsafe {
-            perfect: Perfect::Clean,
-            ..
-        }) => {
-            "that perfect clocks are clean, on which the fewest jumps rest; times; how crystals \
-             make a drift (docs/DRIFT.md argues it)"
+        Finding::Unsafe(_) => {
+            "how long jumps take; how crystals make a drift (docs/DRIFT.md argues it)"
         }
-        Finding::Unsafe(_) => "times; how crystals make a drift (docs/DRIFT.md argues it)",
     };
     [
         ("proved", proved.to_string()),
@@ -201,7 +219,7 @@ pub fn row(facts: &Facts) -> [String; 4] {
         }
         Finding::Unsafe(danger) => {
             let how = match danger.perfect {
-                Perfect::Clean => "by drift only (searched)",
+                Perfect::Clean => "by drift only",
                 Perfect::FailsToo { .. } => "with perfect clocks too",
             };
             let (place, steps) = (facts.plan.quoted(danger.location), danger.steps);
@@ -220,20 +238,7 @@ pub fn row(facts: &Facts) -> [String; 4] {
     ]
 }
 
-/// Rows under their heads, each column as wide as it must be.
+/// The rows of several plans.
 pub fn table(rows: &[[String; 4]]) -> String {
-    let heads = ["plan", "verdict", "states", "finding"].map(str::to_string);
-    let all = || std::iter::once(&heads).chain(rows);
-    let width = |column: usize| {
-        let widths = all().map(|row| row[column].chars().count());
-        widths.max().unwrap_or(0)
-    };
-    let [title, verdict, states] = [0, 1, 2].map(width);
-    all()
-        .map(|row| {
-            let [a, b, c, d] = row;
-            let line = format!("{a:<title$}  {b:<verdict$}  {c:>states$}  {d}");
-            line.trim_end().to_string() + "\n"
-        })
-        .collect()
+    text::table(["plan", "verdict", "states", "finding"], Some(2), rows)
 }

@@ -156,16 +156,15 @@ impl Window {
         let most = u128::from(within.rate)
             .saturating_mul(part)
             .saturating_add(within.base.into());
-        let nanoseconds = |units: u128| Some(units.saturating_mul(plan.units.unit?.into()));
         Some(Window {
             least,
             most,
             least_time: least
                 .and_then(|jumps| least_units(plan, jumps))
-                .and_then(nanoseconds)
+                .and_then(|units| nanoseconds(plan, units))
                 .map(|time| lessened(time, part))
                 .filter(|time| *time > 0),
-            most_time: nanoseconds(most.saturating_mul(plan.ceiling.into()))
+            most_time: nanoseconds(plan, most.saturating_mul(plan.ceiling.into()))
                 .map(|time| time.saturating_add(time / part + 1)),
         })
     }
@@ -242,10 +241,19 @@ pub fn time_words(nanoseconds: u128, round: Round) -> String {
     format!("{number} {measure}")
 }
 
-/// A time of so many units in real time, where the length of a unit is known.
+/// A time of so many units in nanoseconds, where the length of a unit is known.
+pub fn nanoseconds(plan: &Plan, units: u128) -> Option<u128> {
+    Some(units.saturating_mul(plan.units.unit?.into()))
+}
+
+/// The same in words.
 pub fn units_words(plan: &Plan, units: u128) -> Option<String> {
-    let time = units.saturating_mul(plan.units.unit?.into());
-    Some(time_words(time, Round::Near))
+    nanoseconds(plan, units).map(|time| time_words(time, Round::Near))
+}
+
+/// The same behind a comma, or nothing.
+pub fn real_words(plan: &Plan, units: u128) -> String {
+    units_words(plan, units).map_or(String::new(), |words| format!(", {words}"))
 }
 
 /// A number with a comma before each three digits.

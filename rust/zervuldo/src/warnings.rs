@@ -1,6 +1,7 @@
 //! Where 'safe' could mislead.
 
 use crate::facts::Warning;
+use crate::library::entered;
 use plan::tell::region_words;
 use plan::Plan;
 use second::graph::Graph;
@@ -48,14 +49,10 @@ pub fn warnings(plan: &Plan, marks: &[u8]) -> Vec<Warning> {
     if plan.locations.iter().all(|location| !location.forbidden) {
         found.push(Warning::NothingForbidden);
     }
-    let regions = marks.len() / plan.locations.len();
-    let is_entered = |location: usize| {
-        let states = location * regions..(location + 1) * regions;
-        marks[states].contains(&1)
-    };
+    let entered = entered(marks, plan.locations.len());
     // That a forbidden location is never entered is what 'safe' means.
     let never = (0..plan.locations.len())
-        .filter(|&location| !plan.locations[location].forbidden && !is_entered(location));
+        .filter(|&location| !plan.locations[location].forbidden && !entered[location]);
     found.extend(never.map(|location| Warning::NeverEntered { location }));
     let graph = Graph::new(plan.model());
     found.extend(never_opening(plan, &graph, marks));

@@ -5,8 +5,9 @@
 //! corners are the whole points of a region's closure; closed walks come from
 //! a transitive closure, marks, their rounds and heights from repeated sweeps;
 //! trails and walks are compared as whole lists, and walks within a fringe
-//! lengthened step by step; limits that blank stay fields mean, and spellings of
-//! a number and of a plan, are tried one by one.
+//! lengthened step by step; least times are those of runs wait by wait; limits
+//! that blank stay fields mean, and spellings of a number and of a plan, are
+//! tried one by one.
 
 pub mod check;
 pub mod harm;
@@ -14,6 +15,7 @@ pub mod margin;
 pub mod read;
 pub mod regions;
 pub mod rounds;
+pub mod soonest;
 pub mod spellings;
 pub mod states;
 pub mod trails;

@@ -1,12 +1,12 @@
 //! What the proved program prints for the text of cases.
 
 use super::{listed, MOST};
-use crate::calls::{check_evidence, harm, judge, marks, rounds, sheet_margin, states_of};
-use crate::calls::{write_evidence, write_plan, Harm, Scratch, SheetMargin};
+use crate::calls::{check_evidence, harm, judge, marks, rounds, sheet_margin, soonest};
+use crate::calls::{states_of, write_evidence, write_plan, Harm, Scratch, SheetMargin};
 use crate::margin::by_drawing;
 use crate::model::read_model;
 use crate::program::bytes_of_text;
-use crate::refusal::{Refusal, OUTPUT_TOO_SHORT};
+use crate::refusal::{Refusal, NEVER_THERE, OUTPUT_TOO_SHORT};
 
 /// What the output holds at first.
 const DIRT: u8 = 7;
@@ -34,6 +34,11 @@ pub fn answers(text: &str, length: usize) -> Result<String, String> {
 /// output, where they are lent.
 fn answer(model: &[u8], line: &str, length: usize) -> Result<String, String> {
     let (word, rest) = line.split_once(' ').unwrap_or((line, ""));
+    // A location stands before the lengths.
+    let (location, rest) = match word {
+        "soonest" => rest.split_once(' ').unwrap_or((rest, "")),
+        _ => ("", rest),
+    };
     let lent = lengths(rest)?;
     let lent = |k: usize| lent.get(k).map_or(length, |&length| length.min(MOST));
     let scratch = |k: usize| [k, k + 1, k + 2, k + 3].map(lent);
@@ -46,6 +51,7 @@ fn answer(model: &[u8], line: &str, length: usize) -> Result<String, String> {
         "sheet_margin" => sheet_margin_answer(model, scratch(0)),
         "harm" => harm_answer(model, scratch(0)),
         "rounds" => rounds_answer(model),
+        "soonest" => soonest_answer(model, location, scratch(0))?,
         _ => {
             let evidence = bytes_of_text(line)?;
             let kind = check_evidence(model, &evidence, [length; 4]);
@@ -77,7 +83,9 @@ fn told(answer: Result<Vec<usize>, Refusal>) -> String {
 /// earlier, untouched."
 fn zeros<T>(model: &[u8], answer: &Result<T, Refusal>) -> String {
     let cleared = match answer {
-        Ok(_) | Err(OUTPUT_TOO_SHORT) => read_model(model).map_or(0, |model| states_of(&model)),
+        Ok(_) | Err(OUTPUT_TOO_SHORT | NEVER_THERE) => {
+            read_model(model).map_or(0, |model| states_of(&model))
+        }
         Err(_) => 0,
     };
     format!(", zero{}", format!(" {cleared}").repeat(4))
@@ -144,4 +152,13 @@ fn harm_answer(model: &[u8], scratch: Scratch) -> String {
 
 fn rounds_answer(model: &[u8]) -> String {
     told(rounds(model).map(|found| vec![found.rounds, found.marked]))
+}
+
+fn soonest_answer(model: &[u8], location: &str, scratch: Scratch) -> Result<String, String> {
+    let location = location
+        .parse()
+        .map_err(|_| format!("not a location: {location}"))?;
+    let found = soonest(model, location, scratch);
+    let zeros = zeros(model, &found);
+    Ok(told(found.map(|time| vec![time as usize])) + &zeros)
 }

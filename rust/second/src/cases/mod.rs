@@ -10,6 +10,7 @@ mod plans;
 mod reading;
 mod rounds;
 pub mod rules;
+mod soonest;
 
 pub use answers::answers;
 
@@ -36,6 +37,7 @@ pub fn cases() -> String {
     plans::plans(&mut text);
     blanks::blanks(&mut text);
     rounds::rounds(&mut text);
+    soonest::soonest(&mut text);
     text.lines
 }
 

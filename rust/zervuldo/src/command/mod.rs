@@ -12,6 +12,7 @@ mod help;
 mod judge;
 mod report;
 mod shorten;
+mod soonest;
 mod words;
 
 use crate::args::{Arguments, Opt, Takes};
@@ -32,12 +33,13 @@ pub struct Command {
     run: fn(&Arguments) -> Result<Outcome, Failure>,
 }
 
-pub const COMMANDS: [&Command; 12] = [
+pub const COMMANDS: [&Command; 13] = [
     &judge::COMMAND,
     &check::COMMAND,
     &report::COMMAND,
     &draw::COMMAND,
     &words::COMMAND,
+    &soonest::COMMAND,
     &encode::COMMAND,
     &decode::COMMAND,
     &shorten::COMMAND,

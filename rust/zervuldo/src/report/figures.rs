@@ -12,7 +12,6 @@ const PROVED: &str = "proved";
 const SEARCHED: &str = "by a search, not proved";
 const ARGUED: &str = "argued in docs/DRIFT.md, not proved";
 const COUNTED: &str = "counted from the plan's own times, not proved";
-const IF_CLEAN: &str = "proved; the fewest jumps only if perfect clocks are clean";
 const BY_TRAIL: &str = "proved, by a trail without drift that passed the check";
 const GIVEN: &str = "given with the plan";
 
@@ -46,9 +45,9 @@ fn danger_rows(facts: &Facts, danger: &Unsafe) -> Vec<Row> {
     let plan = &facts.plan;
     let place = plan.quoted(danger.location);
     let mut shortest = format!("{} steps into {place}", danger.steps);
-    let (clean, harm) = match danger.perfect {
-        Perfect::FailsToo { .. } => (BY_TRAIL, BY_TRAIL),
-        Perfect::Clean => (SEARCHED, IF_CLEAN),
+    let harm = match danger.perfect {
+        Perfect::FailsToo { .. } => BY_TRAIL,
+        Perfect::Clean => PROVED,
     };
     let told = trail(facts).map_or(0, |steps| steps.len());
     if told != danger.steps {
@@ -57,7 +56,11 @@ fn danger_rows(facts: &Facts, danger: &Unsafe) -> Vec<Row> {
     let mut rows = vec![
         ("Shortest trail", shortest, PROVED),
         ("States", states(facts), PROVED),
-        ("Perfect clocks", perfect_words(&danger.perfect), clean),
+        (
+            "Perfect clocks",
+            perfect_words(plan, &danger.perfect),
+            PROVED,
+        ),
         ("Harm", harm_words(plan, danger), harm),
     ];
     rows.extend(drift_words(plan).map(|words| ("Drift", words, ARGUED)));

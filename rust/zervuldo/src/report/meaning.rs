@@ -82,10 +82,10 @@ fn danger_meaning(facts: &Facts, danger: &Unsafe) -> Vec<String> {
         )],
         Perfect::Clean => vec![
             format!(
-                "With perfect clocks the ring never enters {place} (by a search, which is not \
-                 proved). With real ones it can, however good their crystals are: round a loop \
-                 of the plan they slip a hair in each turn, and nothing takes the slip back. \
-                 Better crystals only make it take longer; the plan itself must change."
+                "With perfect clocks the ring never enters {place}. With real ones it can, \
+                 however good their crystals are: round a loop of the plan they slip a hair in \
+                 each turn, and nothing takes the slip back. Better crystals only make it take \
+                 longer; the plan itself must change."
             ),
             DRIFT.to_string(),
         ],

@@ -4,24 +4,21 @@ use super::html::{element, list, section, Html};
 use crate::facts::{Facts, Finding, Perfect};
 
 pub fn proved(facts: &Facts) -> Html {
-    let (proved, open) = match &facts.finding {
-        Finding::Safe(_) => (&SAFE[..], &[][..]),
+    let proved = match &facts.finding {
+        Finding::Safe(_) => &SAFE[..],
         Finding::Unsafe(danger) => match danger.perfect {
-            Perfect::Clean => (&BY_DRIFT[..], &CLEAN[..]),
-            Perfect::FailsToo { .. } => (&ANYWAY[..], &[][..]),
+            Perfect::Clean => &BY_DRIFT[..],
+            Perfect::FailsToo { .. } => &ANYWAY[..],
         },
     };
-    let items = |words: &[&[&str]]| {
-        let words = words.concat();
-        list("ul", words.into_iter().map(Html::from))
-    };
+    let items = |words: &[&str]| list("ul", words.iter().map(|words| Html::from(*words)));
     section(
         "What is proved, and what is not",
         [
             element("h3", "Proved"),
-            items(&[proved]),
+            items(proved),
             element("h3", "Not proved"),
-            items(&[open, &OPEN]),
+            items(&OPEN),
         ],
     )
 }
@@ -32,22 +29,28 @@ const SAFE: [&str; 3] = [
     "The check that this sheet passed, and that a sheet passes only if the plan is safe.",
 ];
 
-const BY_DRIFT: [&str; 3] = [
-    "The verdict: with every drift above 0, however slight, some run enters a forbidden location.",
-    "The number of jumps within which that happens.",
-    "The check that this trail passed, and that a trail passes only if the plan is unsafe.",
+const VERDICT: &str =
+    "The verdict: with every drift above 0, however slight, some run enters a forbidden location.";
+const WITHIN: &str = "The number of jumps within which that happens.";
+const TRAIL: &str =
+    "The check that this trail passed, and that a trail passes only if the plan is unsafe.";
+
+const BY_DRIFT: [&str; 4] = [
+    VERDICT,
+    "That perfect clocks never enter a forbidden location, and with it the fewest jumps before \
+     harm.",
+    WITHIN,
+    TRAIL,
 ];
 
-const ANYWAY: [&str; 4] = [
-    BY_DRIFT[0],
+const ANYWAY: [&str; 5] = [
+    VERDICT,
     "That perfect clocks do too: a trail without drift passed the check, and where one does, some \
      run with perfect clocks enters a forbidden location.",
-    BY_DRIFT[1],
-    BY_DRIFT[2],
+    "The units that perfect clocks take at the least: some run takes just so long, and none less.",
+    WITHIN,
+    TRAIL,
 ];
-
-const CLEAN: [&str; 1] =
-    ["That perfect clocks never enter a forbidden location: a search found no way."];
 
 const OPEN: [&str; 5] = [
     "That the plan describes the ring as it is built.",
