@@ -1,4 +1,5 @@
--- All cases that 01 marks P hold of the definitions, and so do those of 02 (b) on padded evidence and (d) on rounds: computed, in one test.
+-- All cases that 01 marks P hold of the definitions, and so do those of 02 (b) on padded evidence, (d) on rounds and (e) on least times: computed, in one
+-- test.
 use mathlib.Core.Path.{_≡_, refl}
 use mathlib.Core.Bool.{true}
 use Rattle.theory.specs.Below.{tab, any, all, count, least, top}
@@ -11,10 +12,11 @@ use Rattle.theory.specs.System.{reach, onClosedWalk}
 use Rattle.theory.specs.Marked.{step, marks, unsafe}
 use Rattle.theory.specs.Levels.{distanceTo, mark}
 use Rattle.theory.specs.Rounds.{rounds}
+use Rattle.theory.specs.Soonest.{later, soonest, timeTo}
 use Rattle.theory.specs.Height.{under, chain, height}
 use Rattle.theory.specs.Sheet.{keeps, number, ourSheet}
 use Rattle.theory.specs.Trail.{trailSteps, trailStates}
-use Rattle.theory.specs.Labels.{opens}
+use Rattle.theory.specs.Labels.{opens, leads}
 use Rattle.theory.specs.Replay.{movesAlong, ourMoves}
 use Rattle.number.specs.Number.{readNumber, spell, spellAll}
 use Rattle.number.specs.Shortest.{readSpelled}
@@ -34,8 +36,9 @@ use Rattle.evidence.specs.Ours.{ourSheetNumbers, ourTrailNumbers, ourEvidence}
 use Rattle.number.specs.Answer.{answer}
 use Rattle.call.specs.Call.{enough, refusal}
 use Rattle.op_check.specs.Check.{evidenceAnswer, checkAnswer}
-use Rattle.demands.specs.Bench.{samePoints, holds, bench, paddedBench, roundsBench}
+use Rattle.op_soonest.specs.Sounding.{unreached, soonestRefusal, soonestAnswer}
+use Rattle.demands.specs.Bench.{samePoints, holds, bench, paddedBench, roundsBench, soonestBench}
 
-pub bench-holds : (every holds bench ≡ true) × (every holds paddedBench ≡ true) × (every holds roundsBench ≡ true)
-unfolding holds bench paddedBench roundsBench rounds mark distanceTo count samePoints same regions lawful fits attains corners hasCorner face shares allowed guardHolds regionCount locationOf regionOf sameRegion indexIn numberOf allowedState stateAt timeFrom jumpFrom stepFrom beside flowTest systemOf labelledOf tab any all least top exact within dist greedy reach onClosedWalk step marks unsafe under chain height keeps number ourSheet trailSteps trailStates opens movesAlong ourMoves readEvidence readSpelled readNumber spell spellAll each fieldAt kindAt invariantAt endsAt guardAt resolved parseBody parseCounts parseModel markEdge roundOf survivors hasCycle unreset readModel automatonOf numberKeeps numbersFrom sheetRefusal movesNumbers trailNumbers run flowTo labelAt walkStep closedWalk numbersAt faceTo touchTo trailStep trailAnswer ofKind checked ourSheetNumbers ourTrailNumbers ourEvidence answer enough refusal evidenceAnswer checkAnswer
-bench-holds = (refl, refl, refl)
+pub bench-holds : (every holds bench ≡ true) × (every holds paddedBench ≡ true) × (every holds roundsBench ≡ true) × (every holds soonestBench ≡ true)
+unfolding holds bench paddedBench roundsBench soonestBench soonestAnswer soonestRefusal unreached timeTo soonest later leads rounds mark distanceTo count samePoints same regions lawful fits attains corners hasCorner face shares allowed guardHolds regionCount locationOf regionOf sameRegion indexIn numberOf allowedState stateAt timeFrom jumpFrom stepFrom beside flowTest systemOf labelledOf tab any all least top exact within dist greedy reach onClosedWalk step marks unsafe under chain height keeps number ourSheet trailSteps trailStates opens movesAlong ourMoves readEvidence readSpelled readNumber spell spellAll each fieldAt kindAt invariantAt endsAt guardAt resolved parseBody parseCounts parseModel markEdge roundOf survivors hasCycle unreset readModel automatonOf numberKeeps numbersFrom sheetRefusal movesNumbers trailNumbers run flowTo labelAt walkStep closedWalk numbersAt faceTo touchTo trailStep trailAnswer ofKind checked ourSheetNumbers ourTrailNumbers ourEvidence answer enough refusal evidenceAnswer checkAnswer
+bench-holds = (refl, refl, refl, refl)

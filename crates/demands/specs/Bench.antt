@@ -14,6 +14,7 @@ use Rattle.graph.specs.Plan.{systemOfModel}
 use Rattle.evidence.specs.Ours.{ourEvidence}
 use Rattle.call.specs.Call.{modelOf}
 use Rattle.op_check.specs.Check.{checkAnswer}
+use Rattle.op_soonest.specs.Sounding.{soonestAnswer}
 
 pub data Case : Type 0 where
   -- so many clocks, a ceiling: so many regions
@@ -28,6 +29,8 @@ pub data Case : Type 0 where
   ours-is : List ℕ → List ℕ → Case
   -- a model: so many rounds, so many marked states
   rounds-are : List ℕ → ℕ → ℕ → Case
+  -- a model, a location: the number and the values that the call for the least time returns
+  soonest-gives : List ℕ → ℕ → ℕ → List ℕ → Case
 
 -- points in the same order
 unfoldable pub samePoints : List (List ℕ) → List (List ℕ) → Bool
@@ -50,6 +53,8 @@ holds (ours-is model shown) = same (ourEvidence (modelOf model)) shown
 holds (rounds-are model r n) =
     let Y = systemOfModel (modelOf model) in
     eqb (rounds Y) r && eqb (count (Y .size) (marks Y)) n
+holds (soonest-gives model l r vs) =
+    eqb (soonestAnswer model l buffers .number) r && same (soonestAnswer model l buffers .values) vs
 
 -- "model 1,1,1,1,0,0,0,0", with its kind
 abbrev pub tiny : ℕ → List ℕ
@@ -131,4 +136,34 @@ roundsBench =
     rounds-are (tiny 0) 3 3
     ∷ rounds-are still 1 1
     ∷ rounds-are poll 4 5
+    ∷ []
+
+-- two locations at ceiling 2, and an edge that opens at 2 into one with a stay limit of 1; its reset mask
+abbrev pub entry : ℕ → List ℕ
+entry mask = 1 ∷ 1 ∷ 2 ∷ 2 ∷ 1 ∷ 0 ∷ 0 ∷ 0 ∷ 0 ∷ 2 ∷ 0 ∷ 1 ∷ mask ∷ 2 ∷ 2 ∷ []
+
+-- location 3 at 1 by one jump, at once by three
+abbrev pub detour : List ℕ
+detour =
+    1 ∷ 1 ∷ 1 ∷ 4 ∷ 4 ∷ 0
+    ∷ 0 ∷ 0
+    ∷ 0 ∷ 0
+    ∷ 0 ∷ 0
+    ∷ 0 ∷ 0
+    ∷ 0 ∷ 3 ∷ 0 ∷ 1 ∷ 1
+    ∷ 0 ∷ 1 ∷ 0 ∷ 0 ∷ 0
+    ∷ 1 ∷ 2 ∷ 0 ∷ 0 ∷ 0
+    ∷ 2 ∷ 3 ∷ 0 ∷ 0 ∷ 0 ∷ []
+
+-- 02 (e): "The start location gives 0."; "16 when the location number is L or more, or no run gets there"
+unfoldable pub soonestBench : List Case
+soonestBench =
+    soonest-gives (tiny 1) 0 0 (0 ∷ [])
+    ∷ soonest-gives (tiny 0) 1 16 []
+    ∷ soonest-gives (tiny 0) 4294967296 16 []
+    -- a stay limit is held on entry, after the resets
+    ∷ soonest-gives (entry 0) 1 16 []
+    ∷ soonest-gives (entry 1) 1 0 (2 ∷ [])
+    -- the least time, not the fewest jumps
+    ∷ soonest-gives detour 3 0 (0 ∷ [])
     ∷ []

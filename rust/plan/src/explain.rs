@@ -2,7 +2,6 @@
 
 use crate::bytes::encode;
 use crate::flaw::{Flaw, Numbers};
-use crate::mistake::range_words;
 use crate::sheet::read_sheet;
 use crate::trail::read_trail;
 use crate::{Plan, CEILING_MARK, EDGES_MARK};
@@ -145,10 +144,10 @@ pub fn about(number: Refusal, plan: Result<&Plan, &Flaw>, evidence: Option<&[u8]
             )
         }
         (NEVER_THERE, _) => {
-            let numbers = range_words(0, plan.locations.len() as u32 - 1);
+            let locations = plan.locations.len();
             format!(
-                "here: the plan is read without a flaw, and numbers of its locations are \
-                 {numbers}; zervuldo soonest tells which of them have a least time\n"
+                "here: the plan is read without a flaw, and the number of each location is below \
+                 {locations}; zervuldo soonest tells which of them have a least time\n"
             )
         }
         (_, None) if number > OUTPUT_TOO_SHORT => {

@@ -132,8 +132,8 @@ fn about_a_model() {
     for evidence in [None, Some(&[1, 5, 3, 1][..])] {
         assert_eq!(
             about(16, Ok(tiny), evidence),
-            "here: the plan is read without a flaw, and numbers of its locations are 0; zervuldo \
-             soonest tells which of them have a least time\n"
+            "here: the plan is read without a flaw, and the number of each location is below 1; \
+             zervuldo soonest tells which of them have a least time\n"
         );
     }
     assert_eq!(

@@ -188,7 +188,7 @@ impl Window {
                 let least = time_words(least, Round::Down);
                 format!("not before {least}; {most} are enough")
             }
-            None => format!("{most} are enough; no least time is known"),
+            None => format!("{most} are enough; with drift no least time is known"),
         })
     }
 }

@@ -27,19 +27,76 @@ fn unsafe_by_drift_only() {
     let told = judged("poll.txt", &[], BAD);
     assert!(told.starts_with("poll: unsafe meaning with any drift, however slight"));
     assert!(told.contains("states 268 trail 9 steps into 'blank'"));
-    assert!(told
-        .contains("perfect clocks clean: it takes drift to get there (by a search, not proved)"));
     assert!(told.contains("no run of fewer than q - 1 jumps does harm"));
-    assert!(told.contains("not proved that perfect clocks are clean"));
+}
+
+/// That perfect clocks are clean is proved, and with it the fewest jumps; the
+/// example alone is searched for.
+#[test]
+fn perfect_clocks_are_clean() {
+    let told = judged("loop.txt", &[], BAD);
+    for part in [
+        "states 132 trail 8 steps into 'blank' perfect clocks clean: it takes drift to get there \
+         harm at a drift of 1/q of a unit no run of fewer than q - 1 jumps does harm",
+        " proved verdict, states, trail, that perfect clocks are clean, the jumps before harm and \
+         those within which it comes; the trail passes the proved check not proved how long \
+         jumps take; how crystals make a drift (docs/DRIFT.md argues it)",
+    ] {
+        assert!(told.contains(part), "{told}");
+    }
+    assert_eq!(told.matches("(by a search, not proved)").count(), 1);
 }
 
 #[test]
 fn unsafe_with_perfect_clocks() {
     let told = judged("hasty.txt", &[], BAD);
     assert!(told.starts_with("hasty: unsafe"));
-    assert!(told.contains("perfect clocks fail too: a trail of time and jump steps alone passes"));
+    assert!(told.contains(
+        "perfect clocks fail too: 'ring-open' after 4 units at the soonest; a trail of time and \
+         jump steps alone passes the proved check"
+    ));
     assert!(told.contains("some run does harm within 3 jumps, whatever the drift"));
+    assert!(told.contains(" proved verdict, states, trail, the units at the soonest, the jumps"));
+    assert!(told.contains("; the trails pass the proved check not proved how long jumps take;"));
     assert!(!told.contains("example"));
+    let told = judged("hasty.txt", &["--unit", "20ms"], BAD);
+    assert!(
+        told.contains("'ring-open' after 4 units at the soonest, 80 ms; a trail"),
+        "{told}"
+    );
+}
+
+/// The trail with the fewest steps waits for 'late', but jumps get to 'early'
+/// sooner, and as soon to 'too', which comes behind it.
+const SOONER: &str = "clocks x\nceiling 2\n\
+                      location s start\nlocation late forbidden\nlocation a\nlocation b\n\
+                      location c\nlocation early forbidden\nlocation too forbidden\n\
+                      edge s -> late when x=2\nedge s -> a when x=1\nedge a -> b\n\
+                      edge b -> c\nedge c -> early\nedge c -> too\n";
+
+#[test]
+fn the_soonest_of_several() {
+    let sooner = file("sooner.txt", SOONER);
+    let told = joined(&printed(&["judge", &sooner], BAD));
+    assert!(
+        told.contains("perfect clocks fail too: 'early' after 1 unit at the soonest; a trail"),
+        "{told}"
+    );
+    let words = printed(&["words", &sooner], GOOD);
+    assert!(words.ends_with("end in 'late', which is forbidden\n"));
+    let told = printed(&["judge", &sooner, "--json", "--unit=3s"], BAD);
+    let part = "\"perfect_clocks\":{\"clean\":false,\"proved\":true,\"soonest\":{\"location\":\
+                \"early\",\"units\":1,\"ns\":3000000000}}";
+    assert!(told.contains(part), "{told}");
+    let begun = file(
+        "begun.txt",
+        "clocks x\nceiling 1\nlocation a start forbidden\n",
+    );
+    let told = joined(&printed(&["judge", &begun, "--unit=3s"], BAD));
+    assert!(
+        told.contains("perfect clocks fail too: 'a' at once; a trail"),
+        "{told}"
+    );
 }
 
 /// The crystals' drift against the margin, and as jumps and time before harm.
@@ -183,16 +240,28 @@ fn mistakes_and_refusals() {
 #[test]
 fn several_plans() {
     let refused = file("cut.model", [1, 1, 1]);
-    let files = [plan("tiny.txt"), plan("poll.txt"), refused];
-    let output = run_on(&["judge", &files[0], &files[1], &files[2]], b"");
+    let files = [
+        plan("tiny.txt"),
+        plan("poll.txt"),
+        refused,
+        plan("hasty.txt"),
+    ];
+    let output = run_on(&["judge", &files[0], &files[1], &files[2], &files[3]], b"");
     assert_eq!(output.status.code(), Some(REFUSED));
     let told = String::from_utf8(output.stdout).unwrap();
     let lines: Vec<&str> = told.lines().collect();
-    assert_eq!(lines[0], "plan  verdict  states  finding");
-    assert!(lines[1].starts_with("tiny  safe          3  harmless for ever below 1/2 of a unit"));
-    assert!(lines[2].starts_with("poll  unsafe      268  'blank' in 9 steps, by drift only"));
-    assert!(lines[3].starts_with("cut   none "), "{told}");
-    assert!(told.ends_with("\n3 plans: 1 safe, 1 unsafe, 1 without a verdict\n"));
+    assert_eq!(lines[0], "plan   verdict  states  finding");
+    assert!(lines[1].starts_with("tiny   safe          3  harmless for ever below 1/2 of a unit"));
+    assert_eq!(
+        lines[2],
+        "poll   unsafe      268  'blank' in 9 steps, by drift only"
+    );
+    assert!(lines[3].starts_with("cut    none "), "{told}");
+    assert_eq!(
+        lines[4],
+        "hasty  unsafe     1172  'ring-open' in 9 steps, with perfect clocks too"
+    );
+    assert!(told.ends_with("\n4 plans: 1 safe, 2 unsafe, 1 without a verdict\n"));
     assert!(String::from_utf8(output.stderr)
         .unwrap()
         .contains("refused 1: "));
@@ -243,7 +312,7 @@ fn json() {
     );
     for part in [
         "{\"plan\":\"poll\",\"verdict\":\"unsafe\",\"states\":268,\"steps\":9,\"location\":\"blank\"",
-        "\"perfect_clocks\":{\"clean\":true,\"proved\":false}",
+        "\"perfect_clocks\":{\"clean\":true,\"proved\":true,\"soonest\":null}",
         "\"window\":{\"least_jumps\":6666,",
         "\"passes_proved_check\":true",
         ",\"mark\":1}\n",

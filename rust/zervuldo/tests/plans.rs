@@ -63,7 +63,9 @@ fn encode_and_decode_a_mark() {
 #[test]
 fn mistakes_are_shown() {
     let text = file("wrong.txt", "clocks x\nceiling 5\nlocation a\n");
-    for command in ["encode", "decode", "draw", "words", "report", "judge"] {
+    for command in [
+        "encode", "decode", "draw", "words", "report", "judge", "soonest",
+    ] {
         let shown = complaint(&[command, &text], REFUSED);
         assert!(
             shown.contains("wrong.txt, line 2, column 9: the ceiling is 5"),
@@ -164,7 +166,17 @@ fn explain() {
         told.ends_with("'idle' at x=1: it is 1, spelt in 2 bytes where 1 is enough\n"),
         "{told}"
     );
-    for wrong in ["0", "16", "x", "-1"] {
+    let told = printed(&["explain", "16", &plan("loop.txt")], GOOD);
+    assert!(told.starts_with(
+        "refused 16: no run with perfect clocks gets to the location, or there is none\n\
+         The call for the least time alone says so, and neither plan nor evidence is at fault."
+    ));
+    assert!(
+        told.ends_with("; zervuldo soonest tells which of them have a least time\n"),
+        "{told}"
+    );
+    for wrong in ["0", "17", "x", "-1"] {
         complaint(&["explain", "--", wrong], FAILED);
     }
+    assert!(joined(&printed(&["help", "explain"], GOOD)).contains("the refusal, 1 to 16."));
 }

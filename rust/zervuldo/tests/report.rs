@@ -144,7 +144,10 @@ fn a_plan_that_drift_makes_unsafe() {
     assert_told(
         &page,
         &[
-            "With perfect clocks the ring never enters 'blank' (by a search, which is not proved)",
+            "With perfect clocks the ring never enters 'blank'. With real ones it can,",
+            "Perfect clocks clean: it takes drift to get there proved Harm at a drift of 1/q of a \
+             unit no run of fewer than q - 1 jumps does harm, and some run of at most 19 + 34 q \
+             jumps does proved Drift",
             "The ring starts in 'power-up' with all clocks at 0.",
             "After 1 unit (20 ms) enrol leads to 'waiting' and sets panel to 0. Now panel at 0, \
              repeater at 1. (steps 1-3)",
@@ -155,7 +158,10 @@ fn a_plan_that_drift_makes_unsafe() {
             "At once collide leads to 'blank'. Now panel at 3, repeater at 0. (step 9)",
             "'blank' is forbidden: this is the failure.",
             "many turns of loop A",
-            "That perfect clocks never enter a forbidden location: a search found no way.",
+            "Proved The verdict: with every drift above 0, however slight, some run enters a \
+             forbidden location. That perfect clocks never enter a forbidden location, and with \
+             it the fewest jumps before harm.",
+            "Not proved That the plan describes the ring as it is built.",
         ],
     );
 }
@@ -174,7 +180,11 @@ fn a_plan_that_is_unsafe_anyway() {
             "unit 20 ms and crystal 50 ppm among its lines",
             "some run does harm within 3 jumps, whatever the drift proved, by a trail without \
              drift that passed the check",
+            "Perfect clocks fail too: 'ring-open' after 4 units at the soonest; a trail of time \
+             and jump steps alone passes the proved check proved",
             "That perfect clocks do too: a trail without drift passed the check",
+            "The units that perfect clocks take at the least: some run takes just so long, and \
+             none less.",
         ],
     );
     let words = words(&page);

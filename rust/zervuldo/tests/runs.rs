@@ -9,11 +9,14 @@ use plan::trail::{read_trail, Kind};
 use plan::units::Quantity;
 use plan::Plan;
 use second::generate::generate;
+use second::graph::Graph;
+use second::soonest::least_time;
 use second::widened::{fewest_jumps, Fewest};
 use zervuldo::example::example;
 use zervuldo::facts::{Example, Perfect};
 use zervuldo::library::Library;
 use zervuldo::pace::least_units;
+use zervuldo::perfect::perfect;
 use zervuldo::source::Accepted;
 
 /// Follows a run jump by jump, by document 01's words for a widened run.
@@ -51,7 +54,7 @@ fn example_of(library: &mut Library, plan: Plan) -> Option<(Plan, Example, Harm)
     let model = encode(&plan);
     let judgement = library.judge(&model).unwrap();
     let accepted = Accepted { plan, model };
-    let perfect = zervuldo::perfect::perfect(library, &accepted).unwrap();
+    let perfect = perfect(library, &accepted).unwrap();
     if judgement.verdict == Verdict::Safe || perfect != Perfect::Clean {
         return None;
     }
@@ -95,6 +98,34 @@ fn examples_are_runs() {
         tried += 1;
     }
     assert!(tried > 200, "{tried}");
+}
+
+/// The forbidden location that is entered soonest, by the second checker's
+/// search: its least time, and of several the lowest number.
+fn soonest_by_search(plan: &Plan) -> Option<(u64, usize)> {
+    let graph = Graph::new(plan.model());
+    let locations = 0..plan.locations.len();
+    let forbidden = locations.filter(|&at| plan.locations[at].forbidden);
+    let times = forbidden.filter_map(|at| Some((least_time(&graph, at)?, at)));
+    times.min()
+}
+
+#[test]
+fn perfect_clocks_by_search() {
+    let mut library = Library::default();
+    let mut seen = [0; 2];
+    for (seed, kind) in (0..400).zip(["plain", "drift", "small", "blank"].into_iter().cycle()) {
+        let model = generate(seed, kind).unwrap();
+        let plan = decode(&model).unwrap();
+        let accepted = Accepted { plan, model };
+        let found = match perfect(&mut library, &accepted).unwrap() {
+            Perfect::Clean => None,
+            Perfect::FailsToo { soonest, .. } => Some((soonest.units, soonest.location)),
+        };
+        assert_eq!(found, soonest_by_search(&accepted.plan), "{kind} {seed}");
+        seen[usize::from(found.is_some())] += 1;
+    }
+    assert!(seen.iter().all(|&count| count > 100), "{seen:?}");
 }
 
 /// Two jumps of the poll plan take 3 units by its own limits; cut into shorter

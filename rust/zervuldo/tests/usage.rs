@@ -57,7 +57,7 @@ fn marks_in_the_help() {
 }
 
 /// Wrong arguments, P standing for a plan, and what is said of them.
-const WRONG: [(&str, &str); 17] = [
+const WRONG: [(&str, &str); 21] = [
     ("", "zervuldo: judge the timing"),
     (
         "jugde P",
@@ -68,6 +68,16 @@ const WRONG: [(&str, &str); 17] = [
     ("encode P P", "too many arguments"),
     ("shorten P P", "too many arguments: it takes PLAN"),
     ("compare P", "too few arguments: it takes PLAN OTHER"),
+    ("soonest", "too few arguments: it takes PLAN [LOCATION]"),
+    (
+        "soonest P blank P",
+        "too many arguments: it takes PLAN [LOCATION]",
+    ),
+    (
+        "soonest P --crystal 50ppm",
+        "there is no option '--crystal' here",
+    ),
+    ("soonest none", "none: No such file"),
     ("completion P", "too many arguments: it takes none"),
     (
         "judge P --jsn",
@@ -182,6 +192,8 @@ fn completion() {
     assert_eq!(completed("zervuldo draw --p"), "--plain\n");
     assert_eq!(completed("zervuldo sh"), "shorten\n");
     assert_eq!(completed("zervuldo shorten --c"), "--check\n");
+    assert_eq!(completed("zervuldo so"), "soonest\n");
+    assert_eq!(completed("zervuldo soonest --u"), "--unit\n");
     assert_eq!(completed("zervuldo help com"), "compare completion\n");
     assert_eq!(completed("zervuldo help ex"), "explain\n");
     assert_eq!(completed("zervuldo judge pol"), "\n");

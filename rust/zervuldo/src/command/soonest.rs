@@ -9,12 +9,12 @@ use crate::outcome::{Failure, Outcome};
 use crate::source::Accepted;
 use crate::text::{indented, table, wrapped};
 use crate::told::labelled;
-use plan::mistake::{guess, range_words};
+use plan::mistake::guess;
 use plan::Plan;
 
 pub const COMMAND: Command = Command {
     name: "soonest",
-    summary: "how soon perfect clocks enter a location, at the least",
+    summary: "the least time into a location with perfect clocks",
     details: "LOCATION is a name of the plan, or where none is called so a number, from 0. \
               Without it all locations are listed. The time is proved, in units: some run takes \
               just so long, and none takes less. Where no run gets there, it is never, and the \
@@ -57,19 +57,21 @@ fn location_of(plan: &Plan, file: &str, word: &str) -> Result<usize, Failure> {
     let by_number = || (0..plan.locations.len()).find(|number| number.to_string() == word);
     by_name.or_else(by_number).ok_or_else(|| {
         let hint = guess(word, names());
-        let known: Vec<&str> = names().collect();
-        let numbers = range_words(0, known.len() as u32 - 1);
+        let known = names().collect::<Vec<&str>>().join(", ");
         Failure::failed(format!(
             "zervuldo soonest: there is no location '{word}' in {file}{hint}\n\
-             its locations are {}; their numbers are {numbers}\n",
-            known.join(", ")
+             its locations, from 0 on: {known}\n"
         ))
     })
 }
 
 fn one(plan: &Plan, title: &str, arrival: &Arrival) -> String {
     let place = plan.quoted(arrival.location);
-    let heading = format!("{title}: soonest into {place}");
+    let kind = match plan.locations[arrival.location].forbidden {
+        true => ", which is forbidden",
+        false => "",
+    };
+    let heading = format!("{title}: soonest into {place}{kind}");
     labelled(&heading, &arrival.lines(plan))
 }
 
@@ -77,10 +79,8 @@ fn one(plan: &Plan, title: &str, arrival: &Arrival) -> String {
 fn all(plan: &Plan, title: &str, arrivals: &[Arrival]) -> String {
     let rows: Vec<[String; 3]> = arrivals.iter().map(|arrival| arrival.row(plan)).collect();
     let table = table(["location", "time", "remark"], None, &rows);
-    let trust =
-        "With perfect clocks some run takes just so long, and none takes less; never means \
-                 that none gets there. All of it is proved, in units; what drift does, by the \
-                 marks.";
+    let trust = "With perfect clocks some run takes just so long, and none takes less; \
+                 never means that none gets there. All of it is proved, in units.";
     format!(
         "{title}: soonest into each location\n{}\n{}",
         indented(&table),
