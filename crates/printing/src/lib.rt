@@ -6,10 +6,15 @@ pub fn say(text: &[u8]) {
     io::write_all(STDOUT_FILENO, text);
 }
 
-// A line of a word and a number.
-pub fn line(word: &[u8], number: u64) {
+// A word and a number.
+pub fn put(word: &[u8], number: u64) {
     say(word);
     io::print_decimal(STDOUT_FILENO, number);
+}
+
+// A line of both.
+pub fn line(word: &[u8], number: u64) {
+    put(word, number);
     say(b"\n");
 }
 

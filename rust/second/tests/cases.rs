@@ -463,10 +463,8 @@ fn cases_are_those_stored() {
     assert_eq!(stored, cases());
     let printed = include_str!("../../../crates/cases/stdout");
     assert_eq!(printed, answers(stored, SCRATCH).unwrap());
-    // The program reads no more, and no more of a line. The least times, which
-    // stand last, have so many bytes more.
-    let (before, times) = stored.split_at(stored.find("- pair, soonest\n").unwrap());
-    assert!(before.len() <= 65_536 && times.len() <= 25_000);
+    // The program reads no more, and no more of a line.
+    assert!(stored.len() <= 131_072);
     assert!(stored.lines().all(|line| line.split(',').count() <= 1_024));
 }
 

@@ -5,9 +5,8 @@ use crate::json::{time_fields, Json};
 use crate::library::{entered, Library};
 use crate::outcome::Failure;
 use crate::source::{Accepted, Source};
-use crate::text::counted;
 use crate::told::Line;
-use crate::units::real_words;
+use crate::units::{counted_units, real_words};
 use plan::Plan;
 
 #[derive(Clone, Copy, Debug, PartialEq, Eq)]
@@ -52,7 +51,7 @@ impl Arrival {
         match self.units {
             None => "never".to_string(),
             Some(0) => "0 units".to_string(),
-            Some(units) => unit_words(units) + &real_words(plan, units.into()),
+            Some(units) => counted_units(units) + &real_words(plan, units.into()),
         }
     }
 
@@ -66,7 +65,7 @@ impl Arrival {
             ],
             false => [
                 "slight drift does not lead there either",
-                "nor by slight drift",
+                "not by slight drift either",
             ],
         }
     }
@@ -80,7 +79,7 @@ impl Arrival {
             Some(0) => format!("with perfect clocks some run enters {place} at once"),
             Some(units) => format!(
                 "with perfect clocks some run enters {place} after {}, and none enters it sooner",
-                unit_words(units)
+                counted_units(units)
             ),
             None => {
                 let [drift, _] = self.drift_words();
@@ -127,10 +126,6 @@ impl Arrival {
             ("entered_by_drift", Json::Bool(self.by_drift)),
         ]
     }
-}
-
-fn unit_words(units: u64) -> String {
-    counted(units as usize, "unit")
 }
 
 #[cfg(test)]

@@ -2,7 +2,7 @@
 
 use crate::facts::{Example, Facts, Finding, Perfect, Safe, Soonest, Unsafe};
 use crate::text::{self, counted, wrapped};
-use crate::units::{drift_words, grouped, margin_words, real_words, Drift, Window};
+use crate::units::{counted_units, drift_words, grouped, margin_words, real_words, Drift, Window};
 use plan::{Plan, EDGES_MARK};
 
 /// Where the words behind a label begin.
@@ -132,10 +132,7 @@ fn soonest_words(plan: &Plan, soonest: &Soonest) -> String {
     match soonest.units {
         0 => format!("{place} at once"),
         units => {
-            let (count, real) = (
-                counted(units as usize, "unit"),
-                real_words(plan, units.into()),
-            );
+            let (count, real) = (counted_units(units), real_words(plan, units.into()));
             format!("{place} after {count} at the soonest{real}")
         }
     }

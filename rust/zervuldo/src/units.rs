@@ -6,6 +6,7 @@
 
 use crate::facts::{Perfect, Safe, Unsafe};
 use crate::pace::least_units;
+use crate::text::counted;
 use plan::units::Quantity;
 use plan::{Plan, Units};
 
@@ -251,7 +252,12 @@ pub fn units_words(plan: &Plan, units: u128) -> Option<String> {
     nanoseconds(plan, units).map(|time| time_words(time, Round::Near))
 }
 
-/// The same behind a comma, or nothing.
+/// So many units.
+pub fn counted_units(units: u64) -> String {
+    counted(units as usize, "unit")
+}
+
+/// Their real time behind a comma, or nothing.
 pub fn real_words(plan: &Plan, units: u128) -> String {
     units_words(plan, units).map_or(String::new(), |words| format!(", {words}"))
 }

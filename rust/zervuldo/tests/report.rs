@@ -159,8 +159,8 @@ fn a_plan_that_drift_makes_unsafe() {
             "'blank' is forbidden: this is the failure.",
             "many turns of loop A",
             "Proved The verdict: with every drift above 0, however slight, some run enters a \
-             forbidden location. That perfect clocks never enter a forbidden location, and with \
-             it the fewest jumps before harm.",
+             forbidden location. The number of jumps within which that happens. That perfect \
+             clocks never enter a forbidden location, and with it the fewest jumps before harm.",
             "Not proved That the plan describes the ring as it is built.",
         ],
     );

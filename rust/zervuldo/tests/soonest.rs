@@ -72,7 +72,7 @@ ways: soonest into each location
   b         0 units
   c         1 unit, 5 ms    forbidden
   d         2 units, 10 ms
-  e         never           nor by slight drift
+  e         never           not by slight drift either
 
 With perfect clocks some run takes just so long, and none takes less; never
 means that none gets there. All of it is proved, in units.

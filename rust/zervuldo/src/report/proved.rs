@@ -37,9 +37,9 @@ const TRAIL: &str =
 
 const BY_DRIFT: [&str; 4] = [
     VERDICT,
+    WITHIN,
     "That perfect clocks never enter a forbidden location, and with it the fewest jumps before \
      harm.",
-    WITHIN,
     TRAIL,
 ];
 
@@ -47,8 +47,8 @@ const ANYWAY: [&str; 5] = [
     VERDICT,
     "That perfect clocks do too: a trail without drift passed the check, and where one does, some \
      run with perfect clocks enters a forbidden location.",
-    "The units that perfect clocks take at the least: some run takes just so long, and none less.",
     WITHIN,
+    "The units that perfect clocks take at the least: some run takes just so long, and none less.",
     TRAIL,
 ];
 
