@@ -4,6 +4,8 @@ pub mod Demand2
 pub mod Demand3
 -- Beyond 01: safe for ever, unsafe for real.
 pub mod Forever
+-- Beyond 01: which locations drift enters.
+pub mod Entered
 -- Beyond 01: what the calls for the margin and for harm answer.
 pub mod Outlook
 -- 01's cases marked P hold.

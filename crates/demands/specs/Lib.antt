@@ -4,6 +4,8 @@ pub mod Bench
 pub mod Tight
 -- What the theorems say of answers, marks, plans and slips.
 pub mod Told
+-- A location that the marks tell of.
+pub mod Entered
 -- Bytes that no operation tells apart.
 pub mod SameAnswers
 -- Request (b) of 02: the old rules, and evidence with its padding taken out.

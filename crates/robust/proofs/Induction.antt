@@ -76,7 +76,21 @@ shift {m} {N} b B w r pos enough le =
     let most : length (times w r) ≤ B + m .clocks = omega (arith, times-length w r) in
     good-shift N b pos (times w r) (omega (arith, mul-le-mul-right b most))
 
--- Where windows have at most B steps, no run with drift below 1 / (B + n) enters a forbidden location, however many jumps it has.
+-- Where windows have at most B steps, a run with drift below 1 / (B + n) enters locations of In alone, however many jumps it has.
+pub holds-ever : {m : Automaton} {In : ℕ → Region → Type 0} (c B : ℕ) → Capped m → FlowClosed m In → c ≤ B
+    → ((e D N b : ℕ) → 0 < N → e * N < b * D + D → (B + m .clocks) * b < N → (K : ℕ) → Holds m In c N e D b K → Further m In c N e D b K)
+    → (e D N : ℕ) → (B + m .clocks) * e < D → 0 < N
+    → (gs : List Edge) (l : ℕ) (v : List ℕ) (t : ℕ) → Run m N e D gs l v t → (w : List ℕ) × In l (point w)
+holds-ever {m} c B kept closed le far e D N small pos gs l v t r =
+    let b = e * N / D in
+    let slack : e * N < b * D + D = lt-div-mul-add (omega arith) in
+    let enough : (B + m .clocks) * b < N = below-unit (B + m .clocks) e D N b pos (omega arith) (div-mul-le-self (e * N) D) in
+    let p = shift b B c r pos enough le in (
+      spot N (p .0) t (resets r),
+      holds e D b kept closed pos slack c (far e D N b pos slack enough) (length gs) gs l t v r (omega arith) (p .0) (p .1) (p .2),
+    )
+
+-- So where In has no forbidden location, it enters none.
 pub holds-forever : {m : Automaton} {In : ℕ → Region → Type 0} (c B : ℕ) → Capped m → FlowClosed m In → c ≤ B
     → ((l : ℕ) (v : List ℕ) → In l (point v) → m .forbidden l ≡ false)
     → ((e D N b : ℕ) → 0 < N → e * N < b * D + D → (B + m .clocks) * b < N → (K : ℕ) → Holds m In c N e D b K → Further m In c N e D b K)
@@ -84,10 +98,6 @@ pub holds-forever : {m : Automaton} {In : ℕ → Region → Type 0} (c B : ℕ)
 holds-forever {m} c B kept closed le clean far =
     record {
       enters-none = λ e D N small pos gs l v t r.
-          let b = e * N / D in
-          let slack : e * N < b * D + D = lt-div-mul-add (omega arith) in
-          let enough : (B + m .clocks) * b < N = below-unit (B + m .clocks) e D N b pos (omega arith) (div-mul-le-self (e * N) D) in
-          let p = shift b B c r pos enough le in
-          clean l (spot N (p .0) t (resets r))
-          (holds e D b kept closed pos slack c (far e D N b pos slack enough) (length gs) gs l t v r (omega arith) (p .0) (p .1) (p .2));
+          let (w, i) = holds-ever c B kept closed le far e D N small pos gs l v t r in
+          clean l w i;
     }

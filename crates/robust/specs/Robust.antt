@@ -6,6 +6,8 @@ use Prim.Native.Nat.{ℕ, _*_, _<_}
 use lib.ListN.{getD}
 use Rattle.theory.specs.Lists.{some}
 use Rattle.theory.specs.Automaton.{Automaton, Edge, Run}
+use Rattle.theory.specs.Region.{Region}
+use Rattle.theory.specs.RegionGraph.{Marked}
 
 -- ---- drift that is harmless for ever
 
@@ -20,6 +22,20 @@ pub record RobustlySafe (m : Automaton) (A : ℕ) : Type 0 where
 pub record Fragile (m : Automaton) : Type 0 where
   pub enters-some : (e D : ℕ) → 0 < e → 0 < D
       → (N : ℕ) × (0 < N) × (gs : List Edge) × (l : ℕ) × (v : List ℕ) × (t : ℕ) × Run m N e D gs l v t × (m .forbidden l ≡ true)
+
+-- ---- which locations drift enters, whatever their kind
+
+-- the location has a marked state
+abbrev pub HasMark : Automaton → ℕ → Type 0
+HasMark m l = (xs : Region) × Marked m l xs
+
+-- With every drift e/D above 0 some widened run enters it.
+pub record Entered (m : Automaton) (l : ℕ) : Type 0 where
+  pub enters : (e D : ℕ) → 0 < e → 0 < D → (N : ℕ) × (0 < N) × (gs : List Edge) × (v : List ℕ) × (t : ℕ) × Run m N e D gs l v t
+
+-- No widened run whose drift e/D is below 1/A enters it.
+pub record NeverEntered (m : Automaton) (l A : ℕ) : Type 0 where
+  pub enters-not : (e D N : ℕ) → A * e < D → 0 < N → (gs : List Edge) (v : List ℕ) (t : ℕ) → Run m N e D gs l v t → ⊥
 
 -- ---- "tested on the drawing alone: a model with a closed walk of edges that leaves some clock unreset is refused"
 
