@@ -1,5 +1,6 @@
 /* Judges the loop plan of document 01, writes its evidence, checks that, reads
- * it number by number, and asks how soon drift does harm.
+ * it number by number, and asks how soon drift does harm and how soon perfect
+ * clocks get to each location.
  *
  *     cc -I c -o target/example c/example.c target/staticlib/libdrift_c.a
  */
@@ -10,6 +11,7 @@
 
 /* Enough for this plan of 132 states. */
 #define STATES 132
+#define LOCATIONS 4
 #define ROOM 256
 
 /* Clean with perfect clocks, unsafe under drift. */
@@ -85,6 +87,22 @@ static void harm(void)
             (unsigned long long)out[0], (unsigned long long)out[1]);
 }
 
+/* The least time to each location; the forbidden one, the last, has none. */
+static void soonest(void)
+{
+    uint64_t location;
+    printf("soonest");
+    for (location = 0; location < LOCATIONS; location++) {
+        uint64_t answer = drift_soonest(
+            plan, sizeof plan, location, s1, STATES, s2, STATES, s3, STATES, s4, STATES);
+        if (drift_number_of(answer) == DRIFT_UNREACHED)
+            printf(" never");
+        else
+            printf(" %lu", (unsigned long)drift_units(accepted(answer)));
+    }
+    printf("\n");
+}
+
 int main(void)
 {
     size_t length;
@@ -93,5 +111,6 @@ int main(void)
     check(length);
     read_numbers(length);
     harm();
+    soonest();
     return EXIT_SUCCESS;
 }

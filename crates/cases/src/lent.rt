@@ -15,7 +15,7 @@ pub type Scratch = [Word; MAX_STATES];
 pub type Output = [u8; MAX_STATES];
 
 // Where a line does not say.
-const LENGTH: u64 = 4000;
+const LENGTH: u16 = 4000;
 
 // Of the four scratch slices and of the output.
 pub struct Lengths {

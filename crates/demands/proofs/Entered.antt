@@ -1,13 +1,13 @@
 -- Beyond 01: which locations drift enters, whatever their kind, is told by the marks. From bytes: `bytes` spell an accepted model, each scratch slice is
 -- long enough, and the output has room for the marks.
-use mathlib.Core.Path.{_≡_, sym, subst}
+use mathlib.Core.Path.{_≡_, subst}
 use mathlib.Core.Logic.{_↔_}
 use mathlib.Core.List.{List}
 use Prim.Native.Nat.{ℕ, _≤_}
 use lib.ListN.{length}
 use Rattle.theory.specs.Automaton.{Automaton}
 use Rattle.theory.specs.RegionGraph.{Marked}
-use Rattle.theory.specs.StateGraph.{locationOf, regionOf, numberOf}
+use Rattle.theory.specs.StateGraph.{regionOf, numberOf}
 use Rattle.model.specs.declared.Model.{Model}
 use Rattle.model.specs.Model.{Lawful}
 use Rattle.model.proofs.Accepted.{accepted-resets}
@@ -37,7 +37,7 @@ module _ (bytes lent : List ℕ) (taken : refusal bytes lent ≡ 0) (out : List 
     λ (xs, c).
         let (h, b) = none-missing bytes lent taken out room l xs c in
         let (i, a, n) = marked-numbers m ok c in
-        (numberOf plan l xs, h, state-number bytes lent taken l xs i (a .region) .1 .0, b),
+        (numberOf plan l xs, h, state-number bytes lent taken l xs i (a .region) .1, b),
   )
 
   -- With every drift above 0 some widened run enters a location exactly where some state of it has a mark of 1.

@@ -3,11 +3,11 @@ use mathlib.Core.Path.{_≡_, sym, ap, _∙_}
 use mathlib.Core.Bool.{true, false}
 use mathlib.Core.Logic.{_↔_, _⊎_, inl, inr}
 use mathlib.Core.List.{List, [], _∷_}
-use Prim.Native.Nat.{ℕ, _+_, _*_, _≤_, _<_}
+use Prim.Native.Nat.{ℕ, _≤_, _<_}
 use native.Mathlib.Omega.{arith}
 use native.Mathlib.Decide.{decLt}
-use lib.ListN.{length, getD}
-use Rattle.theory.specs.Automaton.{Automaton, Edge, Run, Steady}
+use lib.ListN.{getD}
+use Rattle.theory.specs.Automaton.{Automaton, Steady}
 use Rattle.theory.specs.Soonest.{Soonest, Never, Clean}
 use Rattle.theory.specs.Below.{bit}
 use Rattle.theory.specs.Marked.{unsafe}

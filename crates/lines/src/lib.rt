@@ -5,7 +5,7 @@ ghost use Prim.Native.Nat.{_+_, _≤_, min};
 ghost use lib.ListN.{length};
 ghost use Rattle.io.specs.Counts.{Counts};
 
-// The greatest number of a field.
+// The greatest number of a long field.
 const MAX: u64 = 18446744073709551615;
 
 // Where the line that begins at an offset ends.
@@ -109,7 +109,7 @@ fn read_on(value: u64, c: u8, here: bool) -> u64 {
 }
 
 // The number in field k of a line, fields being set apart by a space or a comma; or another one, if the line has fewer fields.
-pub fn field(line: &[u8], k: usize, otherwise: u64) -> u64 {
+pub fn long_field(line: &[u8], k: usize, otherwise: u64) -> u64 {
     let mut value = 0;
     let mut at = 0;
     let mut i = 0;
@@ -120,4 +120,9 @@ pub fn field(line: &[u8], k: usize, otherwise: u64) -> u64 {
         value = read_on(value, c, at == k);
     }
     if at < k { otherwise } else { value }
+}
+
+// The same as far as a shorter type holds it.
+pub fn field(line: &[u8], k: usize, otherwise: u16) -> u16 {
+    (long_field(line, k, otherwise as u64) % 65536) as u16
 }

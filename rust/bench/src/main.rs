@@ -211,23 +211,41 @@ fn print_times() {
         "states", "class", "ours", "second", "ratio", "slowest", "second"
     );
     for size in SIZES {
+        let (clocks, ceiling, locations) = size;
         for class in classes(size) {
-            print_time(size, class);
+            let model = |seed| generate_sized(seed, clocks, u32::from(ceiling), locations, class);
+            let models: Vec<_> = (0..MODELS).map(model).collect();
+            let class = format!("{class:?}").to_lowercase();
+            print_time(size, &class, &models);
         }
     }
+    print_time(SIZES[SIZES.len() - 1], "open", &[open()]);
 }
 
-fn print_time(size: Size, class: Class) {
-    let (clocks, ceiling, locations) = size;
+/// A plan of the largest size with as many whole points in reach as can be:
+/// eight locations in a ring, three edges that are always open from each to the
+/// next, each resetting one clock, the last ones all.
+fn open() -> Vec<u8> {
+    let mut model = vec![1, 3, 4, 8, 24, 0];
+    model.extend([0; 4 * 8]);
+    for from in 0..8 {
+        for mask in [1, 2, 4] {
+            let mask = if from == 7 { 7 } else { mask };
+            model.extend([from, (from + 1) % 8, mask, 0, 4, 0, 4, 0, 4]);
+        }
+    }
+    model
+}
+
+fn print_time(size: Size, class: &str, models: &[Vec<u8>]) {
     let states = states_of(size);
     let mut buffers = Buffers::new(states);
     let mut calls = Vec::new();
-    for seed in 0..MODELS {
-        let model = generate_sized(seed, clocks, u32::from(ceiling), locations, class);
-        for location in 0..locations as u64 {
+    for model in models {
+        for location in 0..size.2 as u64 {
             let times = both(
-                || buffers.soonest(&model, location),
-                || second::soonest(&model, location, [states; 4]),
+                || buffers.soonest(model, location),
+                || second::soonest(model, location, [states; 4]),
             );
             calls.push(times.map(|time| time.as_secs_f64() * 1e6));
         }
@@ -235,7 +253,7 @@ fn print_time(size: Size, class: Class) {
     let of = |at: usize| calls.iter().map(move |times| times[at]);
     let [ours, theirs] = [0, 1].map(|at| of(at).sum::<f64>() / calls.len() as f64);
     let [slow, slow_theirs] = [0, 1].map(|at| of(at).fold(0.0, f64::max));
-    let (class, ratio) = (format!("{class:?}").to_lowercase(), ours / theirs);
+    let ratio = ours / theirs;
     println!(
         "{states:>7} {class:>6} {ours:>9.1} {theirs:>9.1} {ratio:>6.2} {slow:>9.1} {slow_theirs:>9.1}"
     );

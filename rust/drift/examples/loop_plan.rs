@@ -1,6 +1,6 @@
 //! Judges the loop plan of document 01, writes its evidence, checks that, reads
-//! it number by number, and asks how soon drift does harm. c/example.c does the
-//! same in C.
+//! it number by number, and asks how soon drift does harm and how soon perfect
+//! clocks get to each location. c/example.c does the same in C.
 
 use drift::{Buffers, Harm, Numbers, Refusal, Verdict};
 
@@ -16,6 +16,7 @@ const PLAN: [u8; 46] = [
 
 /// Enough for this plan of 132 states.
 const STATES: usize = 132;
+const LOCATIONS: u64 = 4;
 const ROOM: usize = 256;
 
 fn main() {
@@ -45,6 +46,7 @@ pub fn report() -> Result<String, Refusal> {
         format!("passes {kind}\n"),
         format!("numbers{}\n", numbers(evidence)?),
         harm_line(harm),
+        format!("soonest{}\n", times(&mut buffers)?),
     ]
     .concat())
 }
@@ -64,6 +66,17 @@ fn harm_line(harm: Harm) -> String {
             format!("harm within {base} + {rate}q jumps\n")
         }
     }
+}
+
+/// The least time to each location, each after a blank; the forbidden one, the
+/// last, has none.
+fn times(buffers: &mut Buffers) -> Result<String, Refusal> {
+    let time = |location| match drift::soonest(&PLAN, location, buffers.lend()) {
+        Ok(units) => Ok(format!(" {units}")),
+        Err(Refusal::Unreached) => Ok(" never".to_string()),
+        Err(refusal) => Err(refusal),
+    };
+    (0..LOCATIONS).map(time).collect()
 }
 
 /// The numbers that bytes spell, each after a blank.

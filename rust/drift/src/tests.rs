@@ -82,9 +82,9 @@ fn fields_of_an_answer() {
     assert_eq!(accepted(answer), Err(EndsOrdinary));
     let fields = [VERDICT, STATES, COUNT].map(|bits| field(answer, bits));
     assert_eq!(fields, [1, 0xff_ffff, 7]);
-    let bits = [VERDICT, STATES, COUNT, WRITTEN, VALUE, PADDED, NEXT];
+    let bits = [VERDICT, STATES, COUNT, UNITS, WRITTEN, VALUE, PADDED, NEXT];
     let whole = bits.map(|bits| field(u64::MAX, bits));
-    let greatest = [8, 24, 24, 48, 21, 1, 32].map(|bits| (1 << bits) - 1);
+    let greatest = [8, 24, 24, 24, 48, 21, 1, 32].map(|bits| (1 << bits) - 1);
     assert_eq!(whole, greatest);
 }
 
@@ -147,6 +147,31 @@ fn the_trail_carries_the_judged_steps() {
     let mut numbers = Numbers::new(&LOOP_TRAIL);
     assert_eq!(numbers.number(), Ok(2));
     assert_eq!(numbers.number(), Ok(judgement.count as u32));
+}
+
+/// The least times of the loop plan; what only drift reaches has none, nor has
+/// a number that is no location's, however large. 8 comes first.
+#[test]
+fn least_times() {
+    let ask = |location, length| {
+        let mut scratch = dirty(length);
+        let answer = soonest(&LOOP, location, lend(&mut scratch));
+        let zeros = scratch[0].iter().take_while(|&&number| number == 0).count();
+        for slice in &scratch {
+            assert!(slice[..zeros].iter().all(|&number| number == 0));
+            assert!(slice[zeros..].iter().all(|&number| number == DIRT.into()));
+        }
+        (answer, zeros)
+    };
+    for (location, units) in [(0, 0), (1, 1), (2, 1)] {
+        let answer = ask(location, LOOP_STATES + SPARE);
+        assert_eq!(answer, (Ok(units), LOOP_STATES));
+    }
+    for location in [3, 4, 256, 1 << 32, (1 << 32) + 1, u64::MAX] {
+        let answer = ask(location, LOOP_STATES);
+        assert_eq!(answer, (Err(Unreached), LOOP_STATES));
+        assert_eq!(ask(location, LOOP_STATES - 1), (Err(ScratchTooShort), 0));
+    }
 }
 
 /// The margins that the proved program prints; a plan with a loop that resets

@@ -16,6 +16,7 @@ bytes 42
 passes trail
 numbers 2 8 0 0 1 0 3 0 0 2 1 9 0 0 0 0 1 1 0 0 1 2 0 3 1 1 1 1 6 0 1 1 1 2 0 0 0 0 1 1 1 3
 harm within 15 + 26q jumps
+soonest 0 1 1 never
 ";
 
 fn c_folder() -> PathBuf {

@@ -5,7 +5,8 @@ use second::calls::states_of;
 use second::margin::by_drawing;
 use second::program::{bytes_of_text, evidence_bytes, judge_lines, refusal_line, shortest_bytes};
 use second::program::{OUTPUT, SCRATCH};
-use second::read_model;
+use second::refusal::SCRATCH_TOO_SHORT;
+use second::{read_model, soonest};
 use std::collections::BTreeSet;
 use std::fs::{read, read_dir, read_to_string};
 use std::path::{Path, PathBuf};
@@ -63,6 +64,20 @@ fn tolerance_lines(plan: &[u8]) -> String {
     }
 }
 
+/// What the program of request (e) of document 02 prints.
+fn soonest_lines(plan: &[u8]) -> String {
+    let locations = match read_model(plan) {
+        Ok(model) if states_of(&model) <= SCRATCH => model.locations.len(),
+        Ok(_) => return refusal_line(SCRATCH_TOO_SHORT),
+        Err(refusal) => return refusal_line(refusal),
+    };
+    let line = |location| match soonest(plan, location, [SCRATCH; 4]) {
+        Ok(time) => format!("location {location} time {time}\n"),
+        Err(_) => format!("location {location} never\n"),
+    };
+    (0..locations as u64).map(line).collect()
+}
+
 #[test]
 fn the_programs_write_what_is_stored() {
     for (name, program, expected) in cases() {
@@ -71,6 +86,7 @@ fn the_programs_write_what_is_stored() {
             "evidence_bytes" => evidence_bytes(&plan(&name), SCRATCH, OUTPUT),
             "plan_bytes" => shortest_bytes(&plan(&name), OUTPUT),
             "tolerance" => tolerance_lines(&plan(&name)).into_bytes(),
+            "soonest" => soonest_lines(&plan(&name)).into_bytes(),
             _ => panic!("{program}"),
         };
         assert_eq!(written, expected, "{name} {program}");
@@ -95,6 +111,7 @@ fn every_answer_is_among_them() {
     assert!(has("evidence_bytes", b"refused ") && has("tolerance", b"refused "));
     assert!(has("tolerance", b"states "));
     assert!(has("plan_bytes", &[1]) && has("plan_bytes", b"refused "));
+    assert!(has("soonest", b"location 0 time 0\n") && has("soonest", b"refused "));
     for name in names() {
         if let Some(plan) = name.strip_suffix(".plan") {
             assert!(cases.iter().any(|(used, _, _)| used == plan), "{plan}");

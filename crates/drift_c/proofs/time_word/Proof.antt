@@ -1,11 +1,11 @@
 -- `drift_c::time_word` meets its contract.
 use mathlib.Core.Path.{sym, ap, subst, _∙_}
 use native.Mathlib.Omega.{arith}
+use borrow.Author.Needs.{needs}
 use Rattle.op_soonest.specs.declared.Arrival.{Arrival}
 use Rattle.op_soonest.specs.Sounding.{arrivalAnswer}
 use Rattle.drift_c.specs.Words.{countWord, Fields}
 use Rattle.drift_c.proofs.Fields.{count-word-is, count-refused-is}
-use borrow.Author.Needs.{needs}
 use Rattle.drift_c.proofs.time_word.Statement.{statement}
 use Rattle.drift_c.proofs.time_word.Tie as tie
 

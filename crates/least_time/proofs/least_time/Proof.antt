@@ -1,5 +1,4 @@
 -- `least_time::least_time` meets its contract.
-use native.Mathlib.Omega.{arith}
 use borrow.Author.Needs.{needs}
 use Rattle.region_table.proofs.Listed.{front-selected, front-length}
 use Rattle.least_time.proofs.least_time.Statement.{statement}
