@@ -19,40 +19,25 @@ Inv-loop m table level₀ queue₀ start y₀ lo₀ hi₀ level queue y lo hi =
 abbrev μ-loop : tie.MeasureT-loop
 μ-loop m table level₀ queue₀ start y₀ lo₀ hi₀ level queue y lo hi = length level₀ - lo
 
-clear-requires : tie.Need-clear-requires Inv-loop μ-loop
-clear-requires c κs = search needs
-
-from-byte-requires : tie.Need-from-byte-requires Inv-loop μ-loop
-from-byte-requires c κs = search needs
-
-mul-start : tie.Need-mul-start Inv-loop μ-loop
-mul-start c =
-    let s = c .before .before .before .before .before .before .before .before in
-    omega (arith, start-room (s .args .m) (s .pre .0 .0) (s .args .table .now) (s .pre .0 .1) _ (c .from-byte .ensures), s .pre .1, c .before .before .before .clear .kept .0)
-
-mul-level : tie.Need-mul-level Inv-loop μ-loop
-mul-level c =
-    let s = c .before .before .before .before .before .before .before .before in
-    omega (arith, start-room (s .args .m) (s .pre .0 .0) (s .args .table .now) (s .pre .0 .1) _ (c .from-byte .ensures), s .pre .1, c .before .before .before .clear .kept .0)
-
-slice-write-level : tie.Need-slice-write-level Inv-loop μ-loop
-slice-write-level c =
-    let s = c .before .before .before .before .before .before .before .before in
-    omega (arith, start-room (s .args .m) (s .pre .0 .0) (s .args .table .now) (s .pre .0 .1) _ (c .from-byte .ensures), s .pre .1, c .before .before .before .clear .kept .0)
-
-cast-queue : tie.Need-cast-queue Inv-loop μ-loop
-cast-queue c =
-    let s = c .before .before .before .before .before .before .before .before in
-    omega (arith, start-room (s .args .m) (s .pre .0 .0) (s .args .table .now) (s .pre .0 .1) _ (c .from-byte .ensures), s .pre .1, c .before .before .before .clear .kept .0)
-
-slice-write-queue : tie.Need-slice-write-queue Inv-loop μ-loop
-slice-write-queue c =
-    let s = c .before .before .before .before .before .before .before .before in
-    omega (arith, start-room (s .args .m) (s .pre .0 .0) (s .args .table .now) (s .pre .0 .1) _ (c .from-byte .ensures), s .pre .1, c .before .before .before .clear .kept .0)
-
-loop-holds : tie.Need-loop-holds Inv-loop μ-loop
-loop-holds c =
-    let s = c .before .before .before .before .before .before .before .before in
+pub times-spec : {M : Type 1} → statement M
+times-spec =
+    tie.close
+    (tie.spec
+    Inv-loop
+    μ-loop
+    (λ c κs. search needs)
+    (λ c κs. search needs)
+    (λ c. let s = c .before .before .before .before .before .before .before .before in
+    omega (arith, start-room (s .args .m) (s .pre .0 .0) (s .args .table .now) (s .pre .0 .1) _ (c .from-byte .ensures), s .pre .1, c .before .before .before .clear .kept .0))
+    (λ c. let s = c .before .before .before .before .before .before .before .before in
+    omega (arith, start-room (s .args .m) (s .pre .0 .0) (s .args .table .now) (s .pre .0 .1) _ (c .from-byte .ensures), s .pre .1, c .before .before .before .clear .kept .0))
+    (λ c. let s = c .before .before .before .before .before .before .before .before in
+    omega (arith, start-room (s .args .m) (s .pre .0 .0) (s .args .table .now) (s .pre .0 .1) _ (c .from-byte .ensures), s .pre .1, c .before .before .before .clear .kept .0))
+    (λ c. let s = c .before .before .before .before .before .before .before .before in
+    omega (arith, start-room (s .args .m) (s .pre .0 .0) (s .args .table .now) (s .pre .0 .1) _ (c .from-byte .ensures), s .pre .1, c .before .before .before .clear .kept .0))
+    (λ c. let s = c .before .before .before .before .before .before .before .before in
+    omega (arith, start-room (s .args .m) (s .pre .0 .0) (s .args .table .now) (s .pre .0 .1) _ (c .from-byte .ensures), s .pre .1, c .before .before .before .clear .kept .0))
+    (λ c. let s = c .before .before .before .before .before .before .before .before in
     let f = c .before .before .before .clear in
     let e = f .kept .0 in
     let (b, h) = start-room (s .args .m) (s .pre .0 .0) (s .args .table .now) (s .pre .0 .1) _ (c .from-byte .ensures) in
@@ -63,22 +48,14 @@ loop-holds c =
           (omega (arith, s .pre .1 .0)) (s .pre .1 .1 ∙ sym (s .pre .1 .0) ∙ sym e) (e ∙ s .pre .1 .0 ∙ sym (size-is (s .args .m)))
           (c .from-byte .result * length (s .args .table .now)) (start-is (s .args .m) (s .pre .0 .0) (s .args .table .now) (s .pre .0 .1) ∙ sym n)
           (omega (arith, s .pre .1 .0)),
-    )
-
-close-requires : tie.Need-close-requires Inv-loop μ-loop
-close-requires c κs =
-    let s = c .before .before .before .before .before .before .before .before .before .before .before .before in
+    ))
+    (λ c κs. let s = c .before .before .before .before .before .before .before .before .before .before .before .before in
     let I = c .before .before .before .loop .inv .2 in (
       (s .pre .0 .0, s .pre .0 .1),
       (I .size ∙ size-is (s .args .m), omega (arith, fits-le (I .fits), I .fits .limit, I .ends .0), I .ends .1, I .fits, I .at),
-    )
-
-add-y : tie.Need-add-y Inv-loop μ-loop
-add-y c = let I = c .before .before .before .before .before .before .before .before .loop .inv .2 in omega (arith, fits-le (I .fits), I .fits .limit, I .ends .0)
-
-wait-requires : tie.Need-wait-requires Inv-loop μ-loop
-wait-requires c κs =
-    let s = c .before .before .before .before .before .before .before .before .before .before .before .before .before .before .before .before .before .before .before in
+    ))
+    (λ c. let I = c .before .before .before .before .before .before .before .before .loop .inv .2 in omega (arith, fits-le (I .fits), I .fits .limit, I .ends .0))
+    (λ c κs. let s = c .before .before .before .before .before .before .before .before .before .before .before .before .before .before .before .before .before .before .before in
     let I = c .before .before .before .before .before .before .before .before .before .before .loop .inv .2 in
     let C = c .before .before .before .before .before .before .close .ensures in (
       (s .pre .0 .0, s .pre .0 .1),
@@ -88,16 +65,10 @@ wait-requires c κs =
         omega (arith, C .takes .more, I .ends .1),
         C .takes .fits,
       ),
-    )
-
-loop-less : tie.Need-loop-less Inv-loop μ-loop
-loop-less c =
-    let l = c .before .before .before .before .before .before .before .before .before .before .before .before .before .before .before .loop in
-    omega (arith, fits-le (l .inv .2 .fits), l .inv .0, c .before .before .before .before .before .before .before .before .before .before .before .close .ensures .takes .more)
-
-loop-again : tie.Need-loop-again Inv-loop μ-loop
-loop-again c =
-    let s = c .before .before .before .before .before .before .before .before .before .before .before .before .before .before .before .before .before .before .before .before .before .before .before .before in
+    ))
+    (λ c. let l = c .before .before .before .before .before .before .before .before .before .before .before .before .before .before .before .loop in
+    omega (arith, fits-le (l .inv .2 .fits), l .inv .0, c .before .before .before .before .before .before .before .before .before .before .before .close .ensures .takes .more))
+    (λ c. let s = c .before .before .before .before .before .before .before .before .before .before .before .before .before .before .before .before .before .before .before .before .before .before .before .before in
     let l = c .before .before .before .before .before .before .before .before .before .before .before .before .before .before .before .loop in
     let I = l .inv .2 in
     let C = c .before .before .before .before .before .before .before .before .before .before .before .close .ensures in
@@ -105,38 +76,8 @@ loop-again c =
       A .takes .long ∙ C .takes .long ∙ l .inv .0,
       takes-queue (A .takes) (C .takes .fits) ∙ takes-queue (C .takes) (I .fits) ∙ l .inv .1,
       searched-next (joined (s .args .m) (s .pre .0 .0)) I (c .before .before .before .before .before .before .before .before .before .before .before .before .before .before .loop-test .taken) C A,
-    )
-
-same-length : tie.Need-same-length Inv-loop μ-loop
-same-length c = c .before .loop .inv .0 ∙ simp length-set (c .before .before .before .before .before .clear .kept .0)
-
-same-length-2 : tie.Need-same-length-2 Inv-loop μ-loop
-same-length-2 c = c .before .loop .inv .1 ∙ simp length-set
-
-returns : tie.Need-returns Inv-loop μ-loop
-returns c =
-    let s = c .before .before .before .before .before .before .before .before .before .before in
-    searched-end (joined (s .args .m) (s .pre .0 .0)) (c .before .loop .inv .2) (omega arith)
-
-pub times-spec : {M : Type 1} → statement M
-times-spec =
-    tie.close
-    (tie.spec
-    Inv-loop
-    μ-loop
-    clear-requires
-    from-byte-requires
-    mul-start
-    mul-level
-    slice-write-level
-    cast-queue
-    slice-write-queue
-    loop-holds
-    close-requires
-    add-y
-    wait-requires
-    loop-less
-    loop-again
-    same-length
-    same-length-2
-    returns)
+    ))
+    (λ c. c .before .loop .inv .0 ∙ simp length-set (c .before .before .before .before .before .clear .kept .0))
+    (λ c. c .before .loop .inv .1 ∙ simp length-set)
+    (λ c. let s = c .before .before .before .before .before .before .before .before .before .before in
+    searched-end (joined (s .args .m) (s .pre .0 .0)) (c .before .loop .inv .2) (omega arith)))

@@ -16,61 +16,26 @@ Inv-loop m table level₀ queue₀ y lo hi end₀ i₀ level queue end i = Closi
 abbrev μ-loop : tie.MeasureT-loop
 μ-loop m table level₀ queue₀ y lo hi end₀ i₀ level queue end i = length level₀ - i
 
-loop-holds : tie.Need-loop-holds Inv-loop μ-loop
-loop-holds c = closing-first (c .before .before .before .pre .1 .2) (c .before .before .before .pre .1 .3) (c .before .before .before .pre .1 .4)
-
-mul-from-word : tie.Need-mul-from-word Inv-loop μ-loop
-mul-from-word c = let k = c .before .loop .inv .takes .fits in omega (arith, fits-le k, k .limit)
-
-slice-read-from-word : tie.Need-slice-read-from-word Inv-loop μ-loop
-slice-read-from-word c = let k = c .before .before .loop .inv .takes .fits in omega (arith, fits-le k, k .same)
-
-from-word-requires : tie.Need-from-word-requires Inv-loop μ-loop
-from-word-requires c κs = search needs
-
-take-jumps-requires : tie.Need-take-jumps-requires Inv-loop μ-loop
-take-jumps-requires c κs =
-    let s = c .before .before .before .before .before .before .before .before .before in
-    let l = c .before .before .before .before .before .loop in
-    let k = l .inv .takes in (
-      (s .pre .0 .0, s .pre .0 .1, omega (arith, c .before .before .from-word .ensures, k .fits .below (l .i) (omega arith), k .long, s .pre .1 .0)),
-      (k .long ∙ s .pre .1 .0, s .pre .1 .1, k .fits),
-    )
-
-add-i : tie.Need-add-i Inv-loop μ-loop
-add-i c = let k = c .before .before .before .before .before .before .before .before .before .before .loop .inv .takes .fits in omega (arith, fits-le k, k .limit)
-
-loop-less : tie.Need-loop-less Inv-loop μ-loop
-loop-less c = let k = c .before .before .before .before .before .before .before .before .before .before .loop .inv .takes in omega (arith, fits-le (k .fits), k .long)
-
-loop-again : tie.Need-loop-again Inv-loop μ-loop
-loop-again c =
-    let l = c .before .before .before .before .before .before .before .before .before .before .loop in
-    closing-turn (l .inv) (omega arith) (rw (c .before .before .before .before .before .before .before .from-word .ensures) at (c .before .before .before .before .take-jumps .ensures))
-
-same-length : tie.Need-same-length Inv-loop μ-loop
-same-length c = c .before .loop .inv .takes .long
-
-same-length-2 : tie.Need-same-length-2 Inv-loop μ-loop
-same-length-2 c = takes-queue (c .before .loop .inv .takes) (c .before .before .before .before .before .pre .1 .3)
-
-returns : tie.Need-returns Inv-loop μ-loop
-returns c = closing-end (c .before .loop .inv) (omega arith)
-
 pub close-spec : {M : Type 1} → statement M
 close-spec =
     tie.close
     (tie.spec
     Inv-loop
     μ-loop
-    loop-holds
-    mul-from-word
-    slice-read-from-word
-    from-word-requires
-    take-jumps-requires
-    add-i
-    loop-less
-    loop-again
-    same-length
-    same-length-2
-    returns)
+    (λ c. closing-first (c .before .before .before .pre .1 .2) (c .before .before .before .pre .1 .3) (c .before .before .before .pre .1 .4))
+    (λ c. let k = c .before .loop .inv .takes .fits in omega (arith, fits-le k, k .limit))
+    (λ c. let k = c .before .before .loop .inv .takes .fits in omega (arith, fits-le k, k .same))
+    (λ c κs. search needs)
+    (λ c κs. let s = c .before .before .before .before .before .before .before .before .before in
+    let l = c .before .before .before .before .before .loop in
+    let k = l .inv .takes in (
+      (s .pre .0 .0, s .pre .0 .1, omega (arith, c .before .before .from-word .ensures, k .fits .below (l .i) (omega arith), k .long, s .pre .1 .0)),
+      (k .long ∙ s .pre .1 .0, s .pre .1 .1, k .fits),
+    ))
+    (λ c. let k = c .before .before .before .before .before .before .before .before .before .before .loop .inv .takes .fits in omega (arith, fits-le k, k .limit))
+    (λ c. let k = c .before .before .before .before .before .before .before .before .before .before .loop .inv .takes in omega (arith, fits-le (k .fits), k .long))
+    (λ c. let l = c .before .before .before .before .before .before .before .before .before .before .loop in
+    closing-turn (l .inv) (omega arith) (rw (c .before .before .before .before .before .before .before .from-word .ensures) at (c .before .before .before .before .take-jumps .ensures)))
+    (λ c. c .before .loop .inv .takes .long)
+    (λ c. takes-queue (c .before .loop .inv .takes) (c .before .before .before .before .before .pre .1 .3))
+    (λ c. closing-end (c .before .loop .inv) (omega arith)))

@@ -22,44 +22,30 @@ Inv-loop m table level₀ queue₀ y lo hi end₀ i₀ level queue end i =
 abbrev μ-loop : tie.MeasureT-loop
 μ-loop m table level₀ queue₀ y lo hi end₀ i₀ level queue end i = hi - i
 
-loop-holds : tie.Need-loop-holds Inv-loop μ-loop
-loop-holds c = (omega arith, c .before .before .before .pre .1 .2, partly-first (c .before .before .before .pre .1 .3))
-
-mul-from-word : tie.Need-mul-from-word Inv-loop μ-loop
-mul-from-word c = let k = c .before .loop .inv .2 .takes in omega (arith, fits-le (k .fits), k .more, k .fits .limit)
-
-slice-read-from-word : tie.Need-slice-read-from-word Inv-loop μ-loop
-slice-read-from-word c = let k = c .before .before .loop .inv .2 .takes in omega (arith, fits-le (k .fits), k .more, k .fits .same)
-
-from-word-requires : tie.Need-from-word-requires Inv-loop μ-loop
-from-word-requires c κs = search needs
-
-unit-step-requires : tie.Need-unit-step-requires Inv-loop μ-loop
-unit-step-requires c κs =
-    let s = c .before .before .before .before .before .before .before in
+pub wait-spec : {M : Type 1} → statement M
+wait-spec =
+    tie.close
+    (tie.spec
+    Inv-loop
+    μ-loop
+    (λ c. (omega arith, c .before .before .before .pre .1 .2, partly-first (c .before .before .before .pre .1 .3)))
+    (λ c. let k = c .before .loop .inv .2 .takes in omega (arith, fits-le (k .fits), k .more, k .fits .limit))
+    (λ c. let k = c .before .before .loop .inv .2 .takes in omega (arith, fits-le (k .fits), k .more, k .fits .same))
+    (λ c κs. search needs)
+    (λ c κs. let s = c .before .before .before .before .before .before .before in
     let l = c .before .before .before .loop in
     let k = l .inv .2 .takes in
-    (s .pre .0 .0, s .pre .0 .1, omega (arith, c .from-word .ensures, k .fits .below (l .i) (omega (arith, k .more)), k .long, s .pre .1 .0))
-
-take-next-requires : tie.Need-take-next-requires Inv-loop μ-loop
-take-next-requires c κs =
-    let s = c .before .before .before .before .before .before .before .before .before .before in
+    (s .pre .0 .0, s .pre .0 .1, omega (arith, c .from-word .ensures, k .fits .below (l .i) (omega (arith, k .more)), k .long, s .pre .1 .0)))
+    (λ c κs. let s = c .before .before .before .before .before .before .before .before .before .before in
     let l = c .before .before .before .before .before .before .loop in
     let k = l .inv .2 .takes in (
       s .pre .1 .1,
       λ q e. omega (arith, next-to (s .args .m) _ q (sym (c .before .before .unit-step .ensures) ∙ e) .1, k .long, s .pre .1 .0),
       k .fits,
-    )
-
-add-i : tie.Need-add-i Inv-loop μ-loop
-add-i c = let k = c .before .before .before .before .before .before .before .before .before .before .before .loop .inv .2 .takes in omega (arith, fits-le (k .fits), k .more, k .fits .limit)
-
-loop-less : tie.Need-loop-less Inv-loop μ-loop
-loop-less c = omega arith
-
-loop-again : tie.Need-loop-again Inv-loop μ-loop
-loop-again c =
-    let s = c .before .before .before .before .before .before .before .before .before .before .before .before .before .before .before in
+    ))
+    (λ c. let k = c .before .before .before .before .before .before .before .before .before .before .before .loop .inv .2 .takes in omega (arith, fits-le (k .fits), k .more, k .fits .limit))
+    (λ c. omega arith)
+    (λ c. let s = c .before .before .before .before .before .before .before .before .before .before .before .before .before .before .before in
     let l = c .before .before .before .before .before .before .before .before .before .before .before .loop in
     let u = c .before .before .before .before .before .before .before .unit-step .ensures in
     let e : c .before .before .before .before .before .before .before .before .from-word .result ≡ getD (s .args .queue .now) (l .i) 0 = c .before .before .before .before .before .before .before .before .from-word .ensures ∙ l .inv .2 .takes .kept (l .i) (omega arith) in (
@@ -68,32 +54,7 @@ loop-again c =
       between-turn (l .inv .2) (l .inv .0) (omega arith) (takes-same (c .before .before .before .before .take-next .ensures)
           (λ q d. subst (λ (p : ℕ). unitStep (labelledOfModel (s .args .m)) p q ≡ true) e (unit↔ (s .args .m) (c .before .before .before .before .before .before .before .before .from-word .result) q .0 (sym u ∙ d)))
           (λ q d. u ∙ unit↔ (s .args .m) (c .before .before .before .before .before .before .before .before .from-word .result) q .1 (subst (λ (p : ℕ). unitStep (labelledOfModel (s .args .m)) p q ≡ true) (sym e) d))),
-    )
-
-same-length : tie.Need-same-length Inv-loop μ-loop
-same-length c = c .before .loop .inv .2 .takes .long
-
-same-length-2 : tie.Need-same-length-2 Inv-loop μ-loop
-same-length-2 c = takes-queue (c .before .loop .inv .2 .takes) (c .before .before .before .before .before .pre .1 .3)
-
-returns : tie.Need-returns Inv-loop μ-loop
-returns c = between-end (c .before .loop .inv .2) (omega arith)
-
-pub wait-spec : {M : Type 1} → statement M
-wait-spec =
-    tie.close
-    (tie.spec
-    Inv-loop
-    μ-loop
-    loop-holds
-    mul-from-word
-    slice-read-from-word
-    from-word-requires
-    unit-step-requires
-    take-next-requires
-    add-i
-    loop-less
-    loop-again
-    same-length
-    same-length-2
-    returns)
+    ))
+    (λ c. c .before .loop .inv .2 .takes .long)
+    (λ c. takes-queue (c .before .loop .inv .2 .takes) (c .before .before .before .before .before .pre .1 .3))
+    (λ c. between-end (c .before .loop .inv .2) (omega arith)))

@@ -17,66 +17,32 @@ Inv-loop m table level₀ queue₀ y p n edges end₀ e₀ level queue end e =
 abbrev μ-loop : tie.MeasureT-loop
 μ-loop m table level₀ queue₀ y p n edges end₀ e₀ level queue end e = m .edges - e
 
-from-byte-requires : tie.Need-from-byte-requires Inv-loop μ-loop
-from-byte-requires c κs = search needs
-
-loop-holds : tie.Need-loop-holds Inv-loop μ-loop
-loop-holds c = (omega arith, partly-first (c .before .before .before .before .pre .1 .2))
-
-jump-step-requires : tie.Need-jump-step-requires Inv-loop μ-loop
-jump-step-requires c κs =
-    let s = c .before .before .before .before .before .before in
-    (s .pre .0 .0, s .pre .0 .1, omega (arith, c .before .before .from-byte .ensures), s .pre .0 .2)
-
-take-next-requires : tie.Need-take-next-requires Inv-loop μ-loop
-take-next-requires c κs =
-    let s = c .before .before .before .before .before .before .before .before .before in
-    let l = c .before .before .before .before .loop in (
-      s .pre .1 .1,
-      λ q e. omega (arith, next-to (s .args .m) _ q (sym (c .before .before .jump-step .ensures) ∙ e) .1, l .inv .1 .takes .long, s .pre .1 .0),
-      l .inv .1 .takes .fits,
-    )
-
-add-e : tie.Need-add-e Inv-loop μ-loop
-add-e c = search needs
-
-loop-less : tie.Need-loop-less Inv-loop μ-loop
-loop-less c = omega (arith, c .before .before .before .before .before .before .before .before .before .before .from-byte .ensures)
-
-loop-again : tie.Need-loop-again Inv-loop μ-loop
-loop-again c =
-    let l = c .before .before .before .before .before .before .before .before .before .loop in
-    let j = c .before .before .before .before .before .before .before .jump-step .ensures in
-    let b = c .before .before .before .before .before .before .before .before .before .before .from-byte .ensures in (
-      omega arith,
-      between-turn (l .inv .1) (omega arith) (omega arith) (takes-same (c .before .before .before .before .take-next .ensures) (λ q d. sym j ∙ d) (λ q d. j ∙ d)),
-    )
-
-same-length : tie.Need-same-length Inv-loop μ-loop
-same-length c = c .before .loop .inv .1 .takes .long
-
-same-length-2 : tie.Need-same-length-2 Inv-loop μ-loop
-same-length-2 c = takes-queue (c .before .loop .inv .1 .takes) (c .before .before .before .before .before .before .pre .1 .2)
-
-returns : tie.Need-returns Inv-loop μ-loop
-returns c =
-    let s = c .before .before .before .before .before .before in
-    let l = c .before .loop in
-    takes-same (between-end (l .inv .1) (omega (arith, c .before .before .from-byte .ensures))) (jump-some (s .args .m) (s .args .p)) (jump-all (s .args .m) (s .args .p))
-
 pub take-jumps-spec : {M : Type 1} → statement M
 take-jumps-spec =
     tie.close
     (tie.spec
     Inv-loop
     μ-loop
-    from-byte-requires
-    loop-holds
-    jump-step-requires
-    take-next-requires
-    add-e
-    loop-less
-    loop-again
-    same-length
-    same-length-2
-    returns)
+    (λ c κs. search needs)
+    (λ c. (omega arith, partly-first (c .before .before .before .before .pre .1 .2)))
+    (λ c κs. let s = c .before .before .before .before .before .before in
+    (s .pre .0 .0, s .pre .0 .1, omega (arith, c .before .before .from-byte .ensures), s .pre .0 .2))
+    (λ c κs. let s = c .before .before .before .before .before .before .before .before .before in
+    let l = c .before .before .before .before .loop in (
+      s .pre .1 .1,
+      λ q e. omega (arith, next-to (s .args .m) _ q (sym (c .before .before .jump-step .ensures) ∙ e) .1, l .inv .1 .takes .long, s .pre .1 .0),
+      l .inv .1 .takes .fits,
+    ))
+    (λ c. search needs)
+    (λ c. omega (arith, c .before .before .before .before .before .before .before .before .before .before .from-byte .ensures))
+    (λ c. let l = c .before .before .before .before .before .before .before .before .before .loop in
+    let j = c .before .before .before .before .before .before .before .jump-step .ensures in
+    let b = c .before .before .before .before .before .before .before .before .before .before .from-byte .ensures in (
+      omega arith,
+      between-turn (l .inv .1) (omega arith) (omega arith) (takes-same (c .before .before .before .before .take-next .ensures) (λ q d. sym j ∙ d) (λ q d. j ∙ d)),
+    ))
+    (λ c. c .before .loop .inv .1 .takes .long)
+    (λ c. takes-queue (c .before .loop .inv .1 .takes) (c .before .before .before .before .before .before .pre .1 .2))
+    (λ c. let s = c .before .before .before .before .before .before in
+    let l = c .before .loop in
+    takes-same (between-end (l .inv .1) (omega (arith, c .before .before .from-byte .ensures))) (jump-some (s .args .m) (s .args .p)) (jump-all (s .args .m) (s .args .p))))
