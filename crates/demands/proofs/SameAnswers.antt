@@ -25,7 +25,7 @@ use Rattle.op_plan.specs.Plan.{planAnswer, planOutput}
 use Rattle.op_margin.specs.Margin.{marginAnswer}
 use Rattle.op_sheet_margin.specs.SheetMargin.{boundValues, sheetMarginAnswer}
 use Rattle.op_harm.specs.Harm.{harmValues, harmAnswer}
-use Rattle.least_time.specs.Model.{leastTime}
+use Rattle.least_time.specs.LeastTime.{leastTime}
 use Rattle.op_soonest.specs.Sounding.{unreached, soonestRefusal, soonestAnswer}
 use Rattle.demands.specs.SameAnswers.{SameTimed, SameAnswers}
 

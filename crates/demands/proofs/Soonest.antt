@@ -17,7 +17,7 @@ use Rattle.model.specs.declared.Model.{Model}
 use Rattle.model.specs.Model.{Lawful}
 use Rattle.graph.specs.Plan.{automatonOf, systemOfModel}
 use Rattle.graph.specs.States.{states}
-use Rattle.least_time.specs.Model.{leastTime}
+use Rattle.least_time.specs.LeastTime.{leastTime}
 use Rattle.least_time.proofs.Models.{soonest-law, never-law, start-soonest, outside-never, clean-law}
 use Rattle.number.specs.Answer.{Answer, answer}
 use Rattle.call.specs.Call.{modelOf, refusal}

@@ -45,7 +45,7 @@ use Rattle.number.specs.Answer.{Answer, answer}
 use Rattle.call.specs.Call.{modelOf, statesOf, refusal}
 use Rattle.op_judge.specs.Judge.{countOf, verdict, judged}
 use Rattle.op_marks.specs.Marks.{marksRefusal, marked}
-use Rattle.least_time.specs.Model.{leastTime}
+use Rattle.least_time.specs.LeastTime.{leastTime}
 use Rattle.op_soonest.specs.Sounding.{soonestRefusal, soonestAnswer}
 use Rattle.op_soonest.proofs.Arrivals.{soonest-taken}
 use Rattle.theory.proofs.Trail.{steps-verdict}

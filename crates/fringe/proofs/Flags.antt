@@ -8,6 +8,7 @@ use native.Mathlib.Decide.{ℕ-discrete, decLt}
 use native.Mathlib.Omega.{arith}
 use lib.ListN.{length, getD, set, length-set}
 use lib.Seq.{getD-set-same, getD-set-other}
+use Rattle.theory.proofs.Pairs.{pair-left, pair-right}
 use Rattle.theory.specs.Below.{bit}
 use Rattle.theory.specs.Sheet.{inOf}
 use Rattle.theory.specs.StateGraph.{allowedState, systemOf}
@@ -22,7 +23,7 @@ use Rattle.successors.specs.Flags.{AllowedFlags}
 use Rattle.successors.specs.Flow.{regionsIn}
 use Rattle.successors.proofs.Steps.{bit-one}
 use Rattle.sheet_rules.specs.Rules.{Blank, Touched}
-use Rattle.sheet_rules.proofs.Systems.{CornerTables, pair-left, pair-right, touched-near, near-touched}
+use Rattle.sheet_rules.proofs.Systems.{CornerTables, touched-near, near-touched}
 use Rattle.sheet_rules.proofs.Models.{model-corners, location-fits}
 use Rattle.robust.specs.Fringe.{fringe}
 use Rattle.robust.proofs.Fringe.{fringe-law}

@@ -1,3 +1,4 @@
 pub mod Plan
 pub mod States
+pub mod Numbers
 pub mod Models

@@ -5,7 +5,6 @@ use mathlib.Core.Logic.{_↔_}
 use Prim.Native.Nat.{ℕ, _≤_, _<_}
 use native.Mathlib.Omega.{arith}
 use native.Mathlib.Decide.{decLt}
-use borrow.Author.Tests.{lt-ltb, le-ltb}
 use Rattle.theory.specs.Soonest.{jumpStep, unitStep}
 use Rattle.theory.specs.StateGraph.{timeFrom, jumpFrom}
 use Rattle.theory.proofs.StateGraph.{time-is}
@@ -16,33 +15,10 @@ use Rattle.graph.specs.States.{states, nextOf}
 use Rattle.graph.specs.declared.Next.{Next}
 use Rattle.graph.specs.declared.Next.the-variants.{To, Nothing}
 use Rattle.graph.proofs.Plan.{edges-length}
+use Rattle.graph.proofs.Numbers.{to-next, none-next, next-to, next-none}
 use Rattle.search.specs.Queue.{Between}
 
 module _ (m : Model) where
-  pub to-next : (q : ℕ) → q < states m → nextOf m q ≡ To q
-  to-next q h = rw (lt-ltb q (states m) h)
-
-  pub none-next : (q : ℕ) → states m ≤ q → nextOf m q ≡ Nothing
-  none-next q h = rw (le-ltb q (states m) h)
-
-  -- a state is answered just where there is one
-  pub next-to : (q s : ℕ) → nextOf m q ≡ To s → (q ≡ s) × (s < states m)
-  next-to q s e = by (decLt q (states m))
-    where
-      by : Dec (q < states m) → (q ≡ s) × (s < states m)
-      by (yes h) = let z : To q ≡ To s = sym (to-next q h) ∙ e in let d : q ≡ s = cc in (d, omega arith)
-      by (no h) =
-          let k : states m ≤ q = omega arith in
-          let z : To s ≡ Nothing = sym e ∙ none-next q k in
-          let y : _≡_ {A = ℕ} 0 1 = cc in absurd (omega arith)
-
-  pub next-none : (q : ℕ) → nextOf m q ≡ Nothing → states m ≤ q
-  next-none q e = by (decLt q (states m))
-    where
-      by : Dec (q < states m) → states m ≤ q
-      by (yes h) = let z : To q ≡ Nothing = sym (to-next q h) ∙ e in let y : _≡_ {A = ℕ} 0 1 = cc in absurd (omega arith)
-      by (no h) = omega arith
-
   -- ---- a unit of waiting
 
   abbrev time : ℕ → ℕ
@@ -56,23 +32,23 @@ module _ (m : Model) where
   unit-none p e = by (decLt (time (time p)) (states m))
     where
       by : Dec (time (time p) < states m) → Nothing ≡ nextOf m (time (time p))
-      by (yes h) = absurd (omega (arith, time-state (time p) h, next-none (time p) e))
-      by (no h) = let k : states m ≤ time (time p) = omega arith in sym (none-next (time (time p)) k)
+      by (yes h) = absurd (omega (arith, time-state (time p) h, next-none m (time p) e))
+      by (no h) = let k : states m ≤ time (time p) = omega arith in sym (none-next m (time (time p)) k)
 
   pub unit-state : (p q : ℕ) → nextOf m (time p) ≡ To q → q < states m
-  unit-state p q e = next-to (time p) q e .1
+  unit-state p q e = next-to m (time p) q e .1
 
   pub unit-some : (p q : ℕ) (r : Next) → nextOf m (time p) ≡ To q → r ≡ nextOf m (time q) → r ≡ nextOf m (time (time p))
-  unit-some p q r e d = d ∙ ap (λ (x : ℕ). nextOf m (time x)) (sym (next-to (time p) q e .0))
+  unit-some p q r e d = d ∙ ap (λ (x : ℕ). nextOf m (time x)) (sym (next-to m (time p) q e .0))
 
   pub unit↔ : (p q : ℕ) → (nextOf m (time (time p)) ≡ To q) ↔ (unitStep (labelledOfModel m) p q ≡ true)
   unit↔ p q = (
     λ e.
-        let (d, h) = next-to (time (time p)) q e in
+        let (d, h) = next-to m (time (time p)) q e in
         unit-step↔ (automatonOf m) (m .locations) p q .1 (time-state (time p) (rw d h), d, h),
     λ u.
         let (a, d, h) = unit-step↔ (automatonOf m) (m .locations) p q .0 u in
-        rw d (to-next q h),
+        rw d (to-next m q h),
   )
 
   -- ---- the jumps of a state
@@ -82,10 +58,10 @@ module _ (m : Model) where
 
   pub jump-some : (p q : ℕ) → Between 0 (m .edges) (JumpsTo p) q → jumpStep (labelledOfModel m) p q ≡ true
   jump-some p q t =
-      let (d, h) = next-to _ q (t .is) in
+      let (d, h) = next-to m _ q (t .is) in
       jump-step↔ (automatonOf m) (m .locations) p q .1 (t .place, omega (arith, t .before, edges-length m), d, h)
 
   pub jump-all : (p q : ℕ) → jumpStep (labelledOfModel m) p q ≡ true → Between 0 (m .edges) (JumpsTo p) q
   jump-all p q j =
       let (e, b, d, h) = jump-step↔ (automatonOf m) (m .locations) p q .0 j in
-      record { place = e; after = omega arith; before = omega (arith, edges-length m); is = rw d (to-next q h) }
+      record { place = e; after = omega arith; before = omega (arith, edges-length m); is = rw d (to-next m q h) }

@@ -1,11 +1,11 @@
 -- The least time of a location from the times of its states: they stand together, R of them from place l * R on.
-use mathlib.Core.Path.{_≡_, refl, _∙_}
+use mathlib.Core.Path.{_≡_, refl}
 use mathlib.Core.Bool.{Bool, true}
 use mathlib.Core.Logic.{_⊎_, inl, inr, ⊎-elim}
 use mathlib.Core.List.{List}
 use Prim.Native.Nat.{ℕ, _+_, _*_, _-_, _/_, _%_, _≤_, _<_}
 use native.Mathlib.Omega.{arith}
-use native.Mathlib.Nat.{div-add-mod', div-eq-of-lt, mul-add-div-right, mod-lt, le-antisymm}
+use native.Mathlib.Nat.{div-add-mod', mod-lt, le-antisymm}
 use native.Mathlib.Decide.{decLt}
 use lib.ListN.{length, getD}
 use lib.Dec.{eqb}
@@ -14,6 +14,7 @@ use Rattle.theory.specs.Levels.{Fewest}
 use Rattle.theory.specs.Labels.{LabelledSystem}
 use Rattle.theory.specs.Soonest.{soonest, timeTo}
 use Rattle.theory.specs.StateGraph.{locationOf, systemOf, labelledOf}
+use Rattle.theory.proofs.Pairs.{pair-left}
 use Rattle.theory.proofs.Timed.{Joined, soonest-least, soonest-some, soonest-le, timed-below}
 use Rattle.model.specs.declared.Model.{Model}
 use Rattle.model.specs.Model.{Lawful}
@@ -22,7 +23,7 @@ use Rattle.graph.specs.States.{Listed, states}
 use Rattle.graph.proofs.States.{count-length}
 use Rattle.search.specs.Lowest.{Lower}
 use Rattle.search.proofs.Lowest.{fewest-next}
-use Rattle.least_time.specs.Model.{leastTime}
+use Rattle.least_time.specs.LeastTime.{leastTime}
 use Rattle.least_time.specs.Times.{Times}
 use Rattle.least_time.proofs.Models.{joined, start-below}
 
@@ -33,8 +34,7 @@ module _ (S R l : ℕ) (pos : 0 < R) (f : ℕ → ℕ) where
   in-location : (p : ℕ) → l * R ≤ p → p < l * R + R → goal p ≡ true
   in-location p h k =
       let e : l * R + (p - l * R) ≡ p = omega arith in
-      let d : (p - l * R) / R ≡ 0 = div-eq-of-lt (omega arith) in
-      eq-eqb (p / R) l (rw e at (mul-add-div-right pos l (p - l * R)) ∙ omega arith)
+      eq-eqb (p / R) l (rw e at (pair-left l R (p - l * R) (omega arith)))
 
   -- the places of a goal
   goal-place : (p : ℕ) → goal p ≡ true → (l * R ≤ p) × (p < l * R + R)

@@ -16,7 +16,7 @@ use Rattle.graph.specs.Plan.{automatonOf, labelledOfModel}
 use Rattle.graph.specs.States.{Listed, states}
 use Rattle.graph.proofs.Plan.{capped, within, start-at, size-states}
 use Rattle.graph.proofs.States.{count-length, states-limit}
-use Rattle.least_time.specs.Model.{leastTime}
+use Rattle.least_time.specs.LeastTime.{leastTime}
 use Rattle.theory.proofs.TimedRuns as runs
 
 module _ (m : Model) where

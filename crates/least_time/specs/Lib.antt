@@ -1,4 +1,4 @@
 -- The least time of a model.
-pub mod Model
+pub mod LeastTime
 -- What the search by levels promises of its arrays.
 pub mod Times

@@ -12,7 +12,7 @@ ghost use Rattle.graph.specs.Plan.{labelledOfModel};
 ghost use Rattle.graph.specs.States.{Listed, states};
 ghost use Rattle.search.specs.Lowest.{Lower};
 ghost use Rattle.least_time.specs.Times.{Times};
-ghost use Rattle.least_time.specs.Model.{leastTime};
+ghost use Rattle.least_time.specs.LeastTime.{leastTime};
 use limits::MAX_REGIONS;
 use limits::Word;
 use limits::cast::from_byte;

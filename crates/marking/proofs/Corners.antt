@@ -5,11 +5,12 @@ use mathlib.Core.List.{List, _∷_, List·Memᴰ, List·Memᴰ·head, List·Mem�
 use Prim.Native.Nat.{ℕ, suc, _+_, _*_, _/_, _%_, _≤_, _<_}
 use native.Mathlib.Omega.{arith}
 use native.Mathlib.Decide.{ℕ-discrete}
-use native.Mathlib.Nat.{mul-add-div-right, mul-add-mod-self-right, div-eq-of-lt, mod-eq-of-lt, lt-of-mul-lt-mul-right, mul-le-mul-right}
+use native.Mathlib.Nat.{lt-of-mul-lt-mul-right, mul-le-mul-right}
 use lib.ListN.{length, getD, set}
 use lib.Seq.{getD-set-other}
 use Rattle.limits.specs.Limits.{slotCount, pointCount}
 use Rattle.shapes.specs.Layout.{cornersAt, cornersIn}
+use Rattle.theory.proofs.Pairs.{pair-left, pair-right}
 use Rattle.theory.specs.Adjacency.{Chain, Chains}
 use Rattle.theory.proofs.Chains.{chain-cons, chain-nil}
 use Rattle.search.specs.Queue.{Takes, TakesAll, Covers}
@@ -72,14 +73,6 @@ module _ {corner link : List ℕ} {v next : ℕ} (P : PointAt corner link v next
           ⊎-elim (λ z. let y : base + s / slotCount ≡ q = rw z at (o .is) in inl (sym y, rw y (o .closed)))
           (λ k. inr (record { slot = o .slot; member = k; is = o .is; closed = o .closed }))
           (List·Memᴰ·cases-cons (rw (cons .1) at (o .member)))
-
--- ---- a number made of two
-
-pub pair-left : (l P v : ℕ) → v < P → (l * P + v) / P ≡ l
-pair-left l P v h = let z : 0 < P = omega arith in mul-add-div-right z l v ∙ omega (arith, div-eq-of-lt h)
-
-pub pair-right : (l P v : ℕ) → v < P → (l * P + v) % P ≡ v
-pair-right l P v h = mul-add-mod-self-right l P v ∙ mod-eq-of-lt h
 
 -- ---- locations
 

@@ -7,6 +7,7 @@ use native.Mathlib.Omega.{arith}
 use native.Mathlib.Numerals.{add-one}
 use native.Mathlib.Nat.{div-add-mod', mod-lt}
 use lib.ListN.{getD}
+use Rattle.theory.proofs.Pairs.{pair-left, pair-right}
 use Rattle.limits.specs.Limits.{slotCount}
 use Rattle.shapes.specs.Layout.{rowsIn, facesIn, cornersIn}
 use Rattle.theory.specs.Adjacency.{Adjacent}
@@ -16,7 +17,6 @@ use Rattle.search.proofs.Queue.{takes-then, takes-widen, takes-reached}
 use Rattle.marking.specs.Tables.{RegionTables, Successor, to-successor, to-face, to-touched}
 use Rattle.marking.specs.Corners.{Touches}
 use Rattle.shapes.proofs.Parts.{corners-long}
-use Rattle.marking.proofs.Corners.{pair-left, pair-right}
 
 -- the places of the faces of region i, for the states that begin at `base`
 abbrev pub FacesOf : ℕ → List ℕ → ℕ → ℕ → ℕ → Type 0

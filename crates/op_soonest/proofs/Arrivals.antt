@@ -9,7 +9,7 @@ use borrow.Author.Tests.{eqb-true, eqb-false, ne-eqb, ltb-true, lt-ltb, le-ltb}
 use Rattle.theory.proofs.Below.{and-right, cond-ind}
 use Rattle.model.specs.declared.Model.{Model}
 use Rattle.graph.specs.States.{states}
-use Rattle.least_time.specs.Model.{leastTime}
+use Rattle.least_time.specs.LeastTime.{leastTime}
 use Rattle.op_soonest.specs.declared.Arrival.the-variants.{Time, Refused}
 use Rattle.number.specs.Answer.{answer}
 use Rattle.call.specs.Call.{modelOf, statesOf, refusal}

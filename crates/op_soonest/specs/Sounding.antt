@@ -7,7 +7,7 @@ use Rattle.number.specs.Answer.{Answer, answer}
 use Rattle.model.specs.declared.Model.{Model}
 use Rattle.graph.specs.States.{states}
 use Rattle.call.specs.Call.{modelOf, refusal}
-use Rattle.least_time.specs.Model.{leastTime}
+use Rattle.least_time.specs.LeastTime.{leastTime}
 use Rattle.op_soonest.specs.declared.Arrival.{Arrival}
 use Rattle.op_soonest.specs.declared.Arrival.the-variants.{Time, Refused}
 

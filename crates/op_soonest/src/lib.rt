@@ -6,7 +6,7 @@ ghost use lib.ListN.{length};
 ghost use Rattle.number.specs.Answer.{answer};
 ghost use Rattle.model.specs.Model.{Lawful};
 ghost use Rattle.graph.specs.States.{states};
-ghost use Rattle.least_time.specs.Model.{leastTime};
+ghost use Rattle.least_time.specs.LeastTime.{leastTime};
 ghost use Rattle.call.specs.Scratch.{lengths, Scratch, Zeroed, ScratchLeft};
 ghost use Rattle.op_soonest.specs.Sounding.{unreached, soonestAnswer, arrivalAnswer};
 use limits::Word;

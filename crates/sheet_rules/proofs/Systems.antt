@@ -5,12 +5,13 @@ use mathlib.Core.Logic.{_↔_}
 use mathlib.Core.List.{List}
 use Prim.Native.Nat.{ℕ, zero, suc, _+_, _*_, _/_, _%_, _<_}
 use native.Mathlib.Omega.{arith}
-use native.Mathlib.Nat.{div-add-mod', mod-lt, div-lt-iff-lt-mul, mul-add-div-right, mul-add-mod-self-right, div-eq-of-lt, mod-eq-of-lt}
+use native.Mathlib.Nat.{div-add-mod', mod-lt, div-lt-iff-lt-mul}
 use lib.ListN.{getD}
 use lib.Dec.{eqb}
 use Rattle.theory.specs.System.{System, Laws}
 use Rattle.theory.specs.Adjacency.{Holds}
 use Rattle.theory.specs.Sheet.{SheetRules, inOf, heightOf}
+use Rattle.theory.proofs.Pairs.{pair-left, pair-right}
 use Rattle.theory.proofs.Below.{true-unless-false}
 use Rattle.shapes.specs.Layout.{rowsIn, facesIn, cornersIn, ShapesRoom, ShareCorner}
 use Rattle.sheet_rules.specs.Tables.{Slots, RuleSizes}
@@ -51,13 +52,6 @@ pub record SheetKeeps (sheet first targets shapes kind : List ℕ) (locations st
   pub states : (l : ℕ) → l < locations → LocationKeeps sheet first targets shapes (l * R) R (eqb (getD kind l 0) 1)
 
 -- ---- the laws
-
--- a number made of two
-pub pair-left : (l R i : ℕ) → i < R → (l * R + i) / R ≡ l
-pair-left l R i h = let z : 0 < R = omega arith in mul-add-div-right z l i ∙ omega (arith, div-eq-of-lt h)
-
-pub pair-right : (l R i : ℕ) → i < R → (l * R + i) % R ≡ i
-pair-right l R i h = mul-add-mod-self-right l R i ∙ mod-eq-of-lt h
 
 -- two states of one location
 same-base : (R p q : ℕ) → p / R ≡ q / R → p / R * R + q % R ≡ q

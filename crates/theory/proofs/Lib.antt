@@ -55,6 +55,8 @@ pub mod Alike
 pub mod Stay
 -- The bound is sharp.
 pub mod Sharp
+-- A number made of two.
+pub mod Pairs
 -- Numbers of states lead to states and back; the system of an automaton keeps the laws.
 pub mod StateGraph
 -- The start is the first state of its location.

@@ -1,7 +1,7 @@
 -- Numbers of states lead to states and back, and the steps on numbers are the steps of 01 on states, each of its kind. So the system of an automaton
 -- has the laws that the theory of evidence asks for.
 use Prim.Native.Nat.{ℕ, zero, suc, _+_, _*_, _%_, _≤_, _<_}
-use native.Mathlib.Nat.{mod-lt, div-add-mod', div-lt-iff-lt-mul, mul-add-div-right, mul-add-mod-self-right, div-eq-of-lt, mod-eq-of-lt, mul-le-mul-right, add-zero}
+use native.Mathlib.Nat.{mod-lt, div-add-mod', div-lt-iff-lt-mul, mul-le-mul-right}
 use native.Mathlib.Omega.{arith}
 use mathlib.Core.Path.{_≡_, refl, sym, ap, ap₂, _∙_}
 use mathlib.Core.Bool.{Bool, true, false, cond, _&&_, false≢true}
@@ -13,9 +13,10 @@ use Rattle.theory.specs.System.{Laws}
 use Rattle.theory.specs.Labels.{LabelledLaws}
 use Rattle.theory.specs.Pointwise.{Each}
 use Rattle.theory.specs.Automaton.{Automaton, Edge, Capped, Upto}
-use Rattle.theory.specs.Region.{Clock, clock, Region, Fits, Attains, Lawful, regions, face, shares, successor}
+use Rattle.theory.specs.Region.{Clock, clock, Region, Fits, Attains, Lawful, face, shares, successor}
 use Rattle.theory.specs.RegionGraph.{Allowed, Enabled, Flow, after, origin, allowed, guardHolds}
 use Rattle.theory.specs.StateGraph.{Within, regionsOf, regionCount, stateCount, locationOf, regionOf, sameRegion, indexIn, numberOf, allowedState, stateAt, noEdge, edgeAt, timeFrom, jumpFrom, stepFrom, beside, flowTest, systemOf, labelledOf}
+use Rattle.theory.proofs.Pairs.{pair-left, pair-right}
 use Rattle.theory.proofs.Below.{and↔, eqb↔, ltb↔, test↔, any↔, either, cond-ind}
 use Rattle.theory.proofs.Enumeration.{regions-law, region-at, index-once}
 use Rattle.theory.proofs.Region.{lawful-law, allowed-law, guard-law}
@@ -84,14 +85,11 @@ module _ (m : Automaton) where
 
   pub location-of-number : (l : ℕ) {xs : Region} → Lawful (m .clocks) (m .ceiling) xs → locationOf m (numberOf m l xs) ≡ l
   unfolding locationOf numberOf
-  location-of-number l {xs} h =
-      let b = index-below h in
-      mul-add-div-right (omega arith) l (indexIn (regionsOf m) xs) ∙ rw (div-eq-of-lt b) (add-zero l)
+  location-of-number l {xs} h = pair-left l (regionCount m) (indexIn (regionsOf m) xs) (index-below h)
 
   pub region-of-number : (l : ℕ) {xs : Region} → Lawful (m .clocks) (m .ceiling) xs → regionOf m (numberOf m l xs) ≡ xs
   unfolding regionOf numberOf
-  region-of-number l {xs} h =
-      rw (mul-add-mod-self-right l (regionCount m) (indexIn (regionsOf m) xs), mod-eq-of-lt (index-below h)) (index-at h)
+  region-of-number l {xs} h = rw (pair-right l (regionCount m) (indexIn (regionsOf m) xs) (index-below h)) (index-at h)
 
   pub number-below : (locations l : ℕ) {xs : Region} → l < locations → Lawful (m .clocks) (m .ceiling) xs → numberOf m l xs < stateCount m locations
   unfolding numberOf

@@ -72,6 +72,15 @@ pub attains-point : {v cs : List ℕ} → AtLeast 1 0 1 v cs → Attains (point 
 attains-point Each.none = Each.none
 attains-point (Each.more {x = x} {c = c} h hs) = let l : c ≤ x = omega arith in Each.more l (attains-point hs)
 
+-- and back
+pub point-fits : (v : List ℕ) {cs : List ℕ} → Fits (point v) cs → Upto 1 0 1 v cs
+point-fits [] Each.none = Each.none
+point-fits (x ∷ v) (Each.more {c = c} h hs) = let l : x * 1 ≤ (c * 1 + 0) * 1 = omega arith in Each.more l (point-fits v hs)
+
+pub point-attains : (v : List ℕ) {cs : List ℕ} → Attains (point v) cs → AtLeast 1 0 1 v cs
+point-attains [] Each.none = Each.none
+point-attains (x ∷ v) (Each.more {c = c} h hs) = let l : c * 1 * 1 ≤ x * 1 + 0 * 1 = omega arith in Each.more l (point-attains v hs)
+
 fits-between : (v : List ℕ) {cs : List ℕ} → Upto 1 0 1 (elapse 1 v) cs → Fits (between v) cs
 fits-between [] Each.none = Each.none
 fits-between (x ∷ v) (Each.more {c = c} h hs) = let l : x + 1 ≤ c = omega arith in Each.more l (fits-between v hs)

@@ -4,7 +4,7 @@ use mathlib.Core.Path.{_≡_, refl, sym, _∙_}
 use mathlib.Core.Bool.{Bool, true, false, false≢true}
 use mathlib.Core.Logic.{_↔_, _⊎_, inl, inr}
 use mathlib.Core.List.{List, [], _∷_}
-use Prim.Native.Nat.{ℕ, zero, suc, _+_, _*_, _≤_, _<_}
+use Prim.Native.Nat.{ℕ, zero, suc, _+_, _≤_, _<_}
 use native.Mathlib.Nat.{add-zero, zero-add, suc-add}
 use native.Mathlib.Numerals.{add-one}
 use native.Mathlib.Omega.{arith}
@@ -12,29 +12,18 @@ use native.Mathlib.Decide.{decLt}
 use lib.Dec.{eqb}
 use lib.ListN.{length, replicate}
 use borrow.Author.Tests.{eqb-true, eq-eqb}
-use Rattle.theory.specs.Pointwise.{Each}
 use Rattle.theory.specs.Automaton.{Automaton, Edge, Capped, Upto, AtLeast, elapse, resetValues, Opens, Run, Exact}
-use Rattle.theory.specs.Region.{Region, Fits, Attains, successor}
+use Rattle.theory.specs.Region.{Region, successor}
 use Rattle.theory.specs.RegionGraph.{Allowed, Enabled, point, after}
 use Rattle.theory.specs.Labels.{LabelledSystem}
 use Rattle.theory.specs.StateGraph.{Within, stateCount, locationOf, regionOf, numberOf, edgeAt, timeFrom, jumpFrom, stepFrom, systemOf, labelledOf}
 use Rattle.theory.specs.Soonest.{Soonest, Never, jumpStep, unitStep, Timed, timeTo, Clean, NoTime}
 use Rattle.theory.proofs.Below.{any↔, and↔, either}
 use Rattle.theory.proofs.Labels.{opens↔, leads-law}
-use Rattle.theory.proofs.Stay.{between, successor-point, successor-between, jump-point, fits-point, attains-point, upto-earlier, allowed-point, allowed-between, elapse-zero, elapse-suc}
+use Rattle.theory.proofs.Stay.{between, successor-point, successor-between, jump-point, fits-point, attains-point, point-fits, point-attains, upto-earlier, allowed-point, allowed-between, elapse-zero, elapse-suc}
 use Rattle.theory.proofs.StateGraph.{location-of-number, region-of-number, number-below, allowed-number, time-is, time-law, jump-is, jump-law, edge-drawn, drawn-edge, start-allowed}
 use Rattle.theory.proofs.Soonest.{soonest-of, never-of, exact-clean}
 use Rattle.theory.proofs.Timed.{Joined, soonest-least, soonest-below, soonest-some}
-
--- ---- limits on a point are exact limits on its values
-
-point-fits : (v : List ℕ) {cs : List ℕ} → Fits (point v) cs → Upto 1 0 1 v cs
-point-fits [] Each.none = Each.none
-point-fits (x ∷ v) (Each.more {c = c} h hs) = let l : x * 1 ≤ (c * 1 + 0) * 1 = omega arith in Each.more l (point-fits v hs)
-
-point-attains : (v : List ℕ) {cs : List ℕ} → Attains (point v) cs → AtLeast 1 0 1 v cs
-point-attains [] Each.none = Each.none
-point-attains (x ∷ v) (Each.more {c = c} h hs) = let l : c * 1 * 1 ≤ x * 1 + 0 * 1 = omega arith in Each.more l (point-attains v hs)
 
 -- ---- timed walks one after the other
 

@@ -5,7 +5,7 @@ use mathlib.Core.List.{[], _∷_}
 use lib.Seq.{length-take-le}
 use Rattle.number.specs.Answer.{answer}
 use Rattle.model.specs.declared.Model.{Model}
-use Rattle.least_time.specs.Model.{leastTime}
+use Rattle.least_time.specs.LeastTime.{leastTime}
 use Rattle.op_soonest.specs.Sounding.{unreached}
 use Rattle.call.proofs.Calls.{refused-by, untouched, taken, model-is, lawful, room, parts, zero-left}
 use Rattle.op_soonest.proofs.Arrivals.{soonest-refused, soonest-done}

@@ -8,7 +8,8 @@ use mathlib.Core.Bool.{true}
 use Rattle.graph.specs.Plan.{labelledOfModel}
 use Rattle.search.proofs.Queue.{fits-le, Partly, partly-first, takes-same, takes-queue, between-turn, between-end}
 use Rattle.least_time.specs.Times.{Waited}
-use Rattle.least_time.proofs.Leading.{next-to, unit↔}
+use Rattle.graph.proofs.Numbers.{next-to}
+use Rattle.least_time.proofs.Leading.{unit↔}
 use Rattle.theory.specs.Soonest.{unitStep}
 use Rattle.least_time.proofs.levels.wait.Statement.{statement}
 use Rattle.least_time.proofs.levels.wait.Tie as tie

@@ -5,7 +5,8 @@ use Prim.Native.Nat.{_-_, _≤_}
 use mathlib.Core.Path.{sym, _∙_}
 use Rattle.search.specs.Queue.{Between}
 use Rattle.search.proofs.Queue.{Partly, partly-first, takes-same, takes-queue, between-turn, between-end}
-use Rattle.least_time.proofs.Leading.{JumpsTo, jump-some, jump-all, next-to}
+use Rattle.graph.proofs.Numbers.{next-to}
+use Rattle.least_time.proofs.Leading.{JumpsTo, jump-some, jump-all}
 use Rattle.least_time.proofs.steps.take_jumps.Statement.{statement}
 use Rattle.least_time.proofs.steps.take_jumps.Tie as tie
 
