@@ -205,7 +205,7 @@ fn print_plans() {
 /// call and the slowest one.
 fn print_times() {
     println!();
-    println!("least times: microseconds of a call, the mean over all locations of {MODELS} models and the slowest");
+    println!("least times: microseconds of a call to each location, the mean and the slowest");
     println!(
         "{:>7} {:>6} {:>9} {:>9} {:>6} {:>9} {:>9}",
         "states", "class", "ours", "second", "ratio", "slowest", "second"

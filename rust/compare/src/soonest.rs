@@ -5,6 +5,8 @@ use crate::memory::Lent;
 use crate::tally::Tally;
 use second::random::Random;
 
+const MOST_LOCATIONS: u64 = 8;
+
 /// As many locations as a plan can have, and numbers that are none of them:
 /// among them those that a cut to fewer bits would take for one.
 fn locations(random: &mut Random) -> impl Iterator<Item = u64> {
@@ -14,8 +16,6 @@ fn locations(random: &mut Random) -> impl Iterator<Item = u64> {
         .chain(cut)
         .chain([random.bits(), u64::MAX])
 }
-
-const MOST_LOCATIONS: u64 = 8;
 
 /// Both answer alike for every location, each time with scratch of its own.
 pub fn soonest_all_alike(
