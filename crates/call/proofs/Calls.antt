@@ -9,10 +9,10 @@ use lib.Seq.{length-take-le}
 use lib.Dec.{eqb}
 use borrow.Author.Tests.{eqb-true, eqb-false, ne-eqb}
 use Rattle.theory.proofs.Below.{and↔, leb↔, test↔, cond-ind}
-use Rattle.model.specs.declared.Reading.{Reading}
-use Rattle.model.specs.Accept.{readModel}
+use Rattle.parser.specs.declared.Reading.{Reading}
+use Rattle.plan_reader.specs.Accept.{readModel}
 use Rattle.model.specs.Model.{Lawful}
-use Rattle.model.proofs.Accepted.{accepted-lawful}
+use Rattle.plan_reader.proofs.Accepted.{accepted-lawful}
 use Rattle.graph.specs.States.{states}
 use Rattle.call.specs.declared.Admission.{Admission}
 use Rattle.call.specs.Call.{modelOf, statesOf, enough, refusal, admission}

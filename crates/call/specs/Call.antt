@@ -5,7 +5,7 @@ use Prim.Native.Nat.{ℕ}
 use lib.Dec.{eqb, leb}
 use Rattle.theory.specs.Lists.{every}
 use Rattle.model.specs.declared.Model.{Model}
-use Rattle.model.specs.Accept.{readModel}
+use Rattle.plan_reader.specs.Accept.{readModel}
 use Rattle.graph.specs.States.{states}
 use Rattle.call.specs.declared.Admission.{Admission}
 

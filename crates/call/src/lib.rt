@@ -28,7 +28,7 @@ fn is_enough(s: usize, s1: usize, s2: usize, s3: usize, s4: usize) -> bool
 pub fn admit(bytes: &[u8], s1: usize, s2: usize, s3: usize, s4: usize) -> Admission
     ensures { λ r. ⌜ r ≡ admission (now (bytes .entry)) (s1 ∷ s2 ∷ s3 ∷ s4 ∷ []) ⌝ }
 {
-    let read = model::read_model(bytes);
+    let read = plan_reader::read_model(bytes);
     let refusal = read.refusal;
     let m = read.model;
     if refusal != 0 {

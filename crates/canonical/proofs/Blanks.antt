@@ -10,9 +10,9 @@ use Rattle.limits.specs.Limits.{KnownMark}
 use Rattle.stay_limits.specs.Stay.{resolve, lastExit}
 use Rattle.stay_limits.proofs.Exits.{LastExit, exit-last, exit-same}
 use Rattle.model.specs.declared.Model.{Model}
-use Rattle.model.specs.declared.Reading.{Reading}
+use Rattle.parser.specs.declared.Reading.{Reading}
 use Rattle.model.specs.Model.{sourceOf, highAt}
-use Rattle.model.specs.Parse.{defaultAt}
+use Rattle.parser.specs.Parse.{defaultAt}
 use Rattle.canonical.specs.Blank.{Blank, ceiling, none, greatest}
 
 -- the ceiling and the edges alone decide

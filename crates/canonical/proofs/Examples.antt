@@ -5,9 +5,10 @@ use mathlib.Core.List.{List, [], _∷_}
 use Rattle.number.specs.Number.{readNumber, spell, spellAll}
 use Rattle.stay_limits.specs.Stay.{lastExit}
 use Rattle.model.specs.Each.{each, gather}
-use Rattle.model.specs.Parse.{fieldAt, kindAt, invariantAt, endsAt, guardAt, resolved, parseBody, parseCounts, parseModel}
-use Rattle.model.specs.Cycle.{markEdge, roundOf, survivors, hasCycle, unreset}
-use Rattle.model.specs.Accept.{readModel}
+use Rattle.parser.specs.Parse.{fieldAt, kindAt, invariantAt, endsAt, guardAt, resolved, parseBody, parseCounts, parseModel}
+use Rattle.edge_walks.specs.Opening.{opensAlone}
+use Rattle.edge_walks.specs.Cycle.{markEdge, roundOf, survivors, hasCycle, unreset}
+use Rattle.plan_reader.specs.Accept.{readModel}
 use Rattle.canonical.specs.Canonical.{numbersOf, planNumbers, shortestPlan}
 
 -- the loop plan
@@ -36,5 +37,5 @@ shortest :
     × (shortestPlan (readModel plan) ≡ plan)
     × (shortestPlan (readModel (exit 1 2 4)) ≡ exit 1 2 0) × (shortestPlan (readModel (exit 1 4 4)) ≡ exit 1 0 0)
     × (shortestPlan (readModel (exit 2 2 4)) ≡ exit 2 0 0) × (shortestPlan (readModel (exit 2 4 4)) ≡ exit 2 4 0)
-unfolding plan exit lastExit shortestPlan planNumbers numbersOf gather spellAll spell readModel parseModel parseCounts parseBody each kindAt invariantAt endsAt guardAt resolved fieldAt readNumber unreset hasCycle survivors roundOf markEdge
+unfolding plan exit lastExit shortestPlan planNumbers numbersOf gather spellAll spell readModel parseModel parseCounts parseBody each kindAt invariantAt endsAt guardAt resolved fieldAt readNumber unreset opensAlone hasCycle survivors roundOf markEdge
 shortest = (refl, refl, refl, refl, refl, refl, refl, refl)

@@ -12,21 +12,21 @@ use Rattle.number.specs.Sequence.{SpellsAll}
 use Rattle.number.proofs.Laws.{cond-ind}
 use Rattle.number.proofs.Sequence.{plain, reads-law}
 use Rattle.model.specs.declared.Model.{Model}
-use Rattle.model.specs.declared.Reading.{Reading}
+use Rattle.parser.specs.declared.Reading.{Reading}
 use Rattle.model.specs.Each.{gather}
 use Rattle.model.specs.Model.{slot, sourceOf, targetOf, limitAt, lowAt, highAt, Lawful}
-use Rattle.model.specs.Parse.{limitOf, parseModel}
+use Rattle.parser.specs.Parse.{limitOf, parseModel}
 use Rattle.limits.specs.Limits.{KnownMark}
-use Rattle.model.specs.Cycle.{LeavesUnreset, unreset}
-use Rattle.model.specs.Accept.{judged, readModel, Whole}
+use Rattle.edge_walks.specs.Cycle.{LeavesUnreset, unreset}
+use Rattle.plan_reader.specs.Accept.{judged, readModel, Whole}
 use Rattle.canonical.specs.Canonical.{locationNumbers, guardNumbers, edgeNumbers, numbersOf, Stays, blank, written, SpellsPlan}
-use Rattle.model.proofs.Arrays.{row-ext, grid-ext}
+use Rattle.parser.proofs.Arrays.{row-ext, grid-ext}
 use Rattle.canonical.proofs.Blanks.{blank-law, default-same}
 use Rattle.model.proofs.Gather.{gather-ext}
-use Rattle.model.proofs.Drafts.{Draft, InRange, draftNumbers, draft-read, read-draft}
-use Rattle.model.proofs.Finals.{final, resolved-draft, final-kind, final-limit, final-source, final-target, final-reset, final-low, final-high, final-lawful, final-tidy}
-use Rattle.model.proofs.ClosedWalks.{unreset-law}
-use Rattle.model.proofs.Accepted.{accepted-parse, accepted-law, accepted-resets}
+use Rattle.parser.proofs.Drafts.{Draft, InRange, draftNumbers, draft-read, read-draft}
+use Rattle.parser.proofs.Finals.{final, resolved-draft, final-kind, final-limit, final-source, final-target, final-reset, final-low, final-high, final-lawful, final-tidy}
+use Rattle.edge_walks.proofs.ClosedWalks.{unreset-law}
+use Rattle.plan_reader.proofs.Accepted.{accepted-parse, accepted-law, accepted-resets}
 
 -- ---- a stay field and its limit
 

@@ -15,15 +15,15 @@ use Rattle.number.proofs.Spelling.{spell-grows, spell-all-few}
 use Rattle.number.proofs.Sequence.{spelled, spelled-shortest, Fit, fit-none, fit-more, fit-append}
 use Rattle.limits.specs.Limits.{maxClocks, maxLocations, maxEdges, KnownMark}
 use Rattle.model.specs.declared.Model.{Model}
-use Rattle.model.specs.declared.Reading.{Reading}
+use Rattle.parser.specs.declared.Reading.{Reading}
 use Rattle.model.specs.Each.{gather}
 use Rattle.model.specs.Model.{slot, limitAt, Lawful}
-use Rattle.model.specs.Parse.{defaultAt}
-use Rattle.model.specs.Accept.{readModel, Whole}
-use Rattle.model.specs.Longest.{maxModelBytes}
+use Rattle.parser.specs.Parse.{defaultAt}
+use Rattle.plan_reader.specs.Accept.{readModel, Whole}
+use Rattle.parser.specs.Longest.{maxModelBytes}
 use Rattle.canonical.specs.Canonical.{headerNumbers, locationNumbers, guardNumbers, edgeNumbers, numbersOf, Stays, blank, written, SpellsPlan, stayNumbers, planNumbers, shortestPlan}
 use Rattle.canonical.specs.Same.{SameContent}
-use Rattle.model.proofs.Arrays.{row-ext, grid-ext}
+use Rattle.parser.proofs.Arrays.{row-ext, grid-ext}
 use Rattle.canonical.proofs.Gather.{gather-most, gather-same, fit-gather, Shorter, shorter-more, shorter-append, shorter-gather}
 use Rattle.canonical.proofs.Blanks.{blank-law, default-same}
 use Rattle.canonical.proofs.Plans.{model-ext, accept-law, accepted-plan}

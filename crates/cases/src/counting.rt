@@ -20,7 +20,7 @@ fn counted(m: Model, s1: &mut [Word], s2: &mut [Word], s3: &mut [Word], s4: &mut
 
 // The same of the plan that the bytes spell, or its refusal, 1 to 7.
 pub fn rounds(plan: &[u8]) -> Answer {
-    let read = model::read_model(plan);
+    let read = plan_reader::read_model(plan);
     let refusal = read.refusal;
     if refusal != 0 {
         return Answer::Refused(refusal);

@@ -10,7 +10,7 @@ use Rattle.theory.specs.RegionGraph.{Marked}
 use Rattle.theory.specs.StateGraph.{regionOf, numberOf}
 use Rattle.model.specs.declared.Model.{Model}
 use Rattle.model.specs.Model.{Lawful}
-use Rattle.model.proofs.Accepted.{accepted-resets}
+use Rattle.plan_reader.proofs.Accepted.{accepted-resets}
 use Rattle.graph.specs.Plan.{automatonOf}
 use Rattle.graph.proofs.Models.{marked-numbers}
 use Rattle.robust.specs.Robust.{HasMark, Entered, NeverEntered}

@@ -24,9 +24,9 @@ use Rattle.evidence_number.proofs.Reading.{spelled-once}
 use Rattle.evidence.specs.Evidence.{TrailPasses}
 use Rattle.model.specs.declared.Model.{Model}
 use Rattle.model.specs.Model.{Lawful}
-use Rattle.model.specs.Cycle.{LeavesUnreset}
-use Rattle.model.specs.Accept.{readModel}
-use Rattle.model.proofs.Accepted.{accepted-resets}
+use Rattle.edge_walks.specs.Cycle.{LeavesUnreset}
+use Rattle.plan_reader.specs.Accept.{readModel}
+use Rattle.plan_reader.proofs.Accepted.{accepted-resets}
 use Rattle.graph.specs.Plan.{automatonOf, systemOfModel, labelledOfModel}
 use Rattle.graph.proofs.Models.{system-laws}
 use Rattle.robust.specs.Robust.{RobustlySafe, Fragile}

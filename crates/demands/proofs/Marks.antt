@@ -8,10 +8,10 @@ use borrow.Author.Tests.{ne-eqb}
 use Rattle.limits.specs.Limits.{KnownMark}
 use Rattle.number.specs.Number.{spellAll}
 use Rattle.number.specs.Sequence.{SpellsAll}
-use Rattle.model.specs.declared.Reading.{Reading}
+use Rattle.parser.specs.declared.Reading.{Reading}
 use Rattle.model.specs.Model.{limitAt}
-use Rattle.model.specs.Accept.{readModel, Whole}
-use Rattle.model.proofs.Accepted.{accepted-resets}
+use Rattle.plan_reader.specs.Accept.{readModel, Whole}
+use Rattle.plan_reader.proofs.Accepted.{accepted-resets}
 use Rattle.canonical.specs.Blank.{Blank, ceiling, none, greatest}
 use Rattle.canonical.specs.Canonical.{numbersOf, Stays, blank, written, shortestPlan}
 use Rattle.canonical.specs.Same.{SameContent}

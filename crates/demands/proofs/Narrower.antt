@@ -20,14 +20,14 @@ use Rattle.theory.specs.Region.{Region, Fits}
 use Rattle.theory.specs.StateGraph.{regionCount}
 use Rattle.theory.specs.RegionGraph.{Allowed, Enabled, Flow, FlowWalk, Step, Marked}
 use Rattle.model.specs.declared.Model.{Model}
-use Rattle.model.specs.declared.Reading.{Reading}
+use Rattle.parser.specs.declared.Reading.{Reading}
 use Rattle.model.specs.Model.{slot}
-use Rattle.model.specs.Parse.{defaultAt, limitOf, parseModel}
-use Rattle.model.specs.Cycle.{DrawingWalk, LeavesUnreset}
-use Rattle.model.specs.Accept.{readModel}
-use Rattle.model.proofs.Drafts.{Draft, InRange, Drafted, draftNumbers, drawn, readOf, read-draft, draft-read}
-use Rattle.model.proofs.Finals.{final, resolved-draft, default-most, final-limit, final-lawful, final-tidy}
-use Rattle.model.proofs.Accepted.{accepted-parse, accepted-law}
+use Rattle.parser.specs.Parse.{defaultAt, limitOf, parseModel}
+use Rattle.edge_walks.specs.Cycle.{DrawingWalk, LeavesUnreset}
+use Rattle.plan_reader.specs.Accept.{readModel}
+use Rattle.parser.proofs.Drafts.{Draft, InRange, Drafted, draftNumbers, drawn, readOf, read-draft, draft-read}
+use Rattle.parser.proofs.Finals.{final, resolved-draft, default-most, final-limit, final-lawful, final-tidy}
+use Rattle.plan_reader.proofs.Accepted.{accepted-parse, accepted-law}
 use Rattle.graph.specs.Plan.{automatonOf, entriesAt}
 use Rattle.graph.specs.States.{states}
 use Rattle.call.specs.Call.{modelOf, enough, refusal}

@@ -13,7 +13,7 @@ use Rattle.theory.proofs.Trail.{unsafe-trail}
 use Rattle.theory.proofs.Replay.{our-moves-pass, passes-law}
 use Rattle.number.specs.Answer.{Answer, answer}
 use Rattle.model.specs.declared.Model.{Model}
-use Rattle.model.proofs.Accepted.{accepted-resets}
+use Rattle.plan_reader.proofs.Accepted.{accepted-resets}
 use Rattle.graph.specs.Plan.{automatonOf, systemOfModel, labelledOfModel}
 use Rattle.graph.proofs.Models.{system-laws, labelled-laws}
 use Rattle.robust.specs.Robust.{RobustlySafe}

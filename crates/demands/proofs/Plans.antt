@@ -14,11 +14,11 @@ use borrow.Author.Tests.{eqb-true, eqb-false, eq-eqb, ne-eqb, lt-ltb, le-ltb}
 use Rattle.number.specs.Answer.{Answer, answer}
 use Rattle.number.specs.Number.{spellAll}
 use Rattle.spelling.specs.Calls.{bytesAnswer, bytesOutput}
-use Rattle.model.specs.declared.Reading.{Reading}
+use Rattle.parser.specs.declared.Reading.{Reading}
 use Rattle.model.specs.Model.{limitAt}
-use Rattle.model.specs.Cycle.{LeavesUnreset}
-use Rattle.model.specs.Accept.{readModel}
-use Rattle.model.proofs.Accepted.{refusal-bound}
+use Rattle.edge_walks.specs.Cycle.{LeavesUnreset}
+use Rattle.plan_reader.specs.Accept.{readModel}
+use Rattle.plan_reader.proofs.Accepted.{refusal-bound}
 use Rattle.canonical.specs.Canonical.{numbersOf, SpellsPlan, stayNumbers, planNumbers, shortestPlan}
 use Rattle.canonical.specs.Blank.{Blank}
 use Rattle.canonical.specs.Same.{SameContent}

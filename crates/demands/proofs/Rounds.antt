@@ -20,8 +20,8 @@ use Rattle.theory.proofs.Levels.{mark-marks}
 use Rattle.theory.proofs.Rounds.{new-once, new-from, rounds-few}
 use Rattle.model.specs.declared.Model.{Model}
 use Rattle.model.specs.Model.{Lawful}
-use Rattle.model.specs.Accept.{readModel}
-use Rattle.model.proofs.Accepted.{accepted-lawful}
+use Rattle.plan_reader.specs.Accept.{readModel}
+use Rattle.plan_reader.proofs.Accepted.{accepted-lawful}
 use Rattle.graph.specs.Plan.{automatonOf, systemOfModel}
 use Rattle.graph.proofs.Plan.{size-states}
 use Rattle.graph.proofs.Models.{system-laws, marks-states, rounds-law, rounds-mark, new-law}

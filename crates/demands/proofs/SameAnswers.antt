@@ -7,8 +7,8 @@ use lib.Dec.{eqb}
 use Rattle.number.specs.Answer.{answer}
 use Rattle.spelling.specs.Calls.{bytesAnswer, bytesOutput}
 use Rattle.model.specs.declared.Model.{Model}
-use Rattle.model.specs.declared.Reading.{Reading}
-use Rattle.model.specs.Accept.{readModel}
+use Rattle.parser.specs.declared.Reading.{Reading}
+use Rattle.plan_reader.specs.Accept.{readModel}
 use Rattle.canonical.specs.Canonical.{shortestPlan}
 use Rattle.graph.specs.Plan.{automatonOf, systemOfModel}
 use Rattle.graph.specs.States.{states}

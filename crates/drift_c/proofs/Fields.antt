@@ -12,10 +12,10 @@ use Rattle.graph.proofs.Plan.{size-states}
 use Rattle.theory.specs.Marked.{marks, unsafe}
 use Rattle.theory.specs.Trail.{trailSteps}
 use Rattle.theory.proofs.Below.{bit-le, count-le, cond-ind}
-use Rattle.model.specs.Accept.{readModel}
+use Rattle.plan_reader.specs.Accept.{readModel}
 use Rattle.model.specs.declared.Model.{Model}
 use Rattle.model.specs.Model.{Lawful}
-use Rattle.model.proofs.Accepted.{accepted-lawful}
+use Rattle.plan_reader.proofs.Accepted.{accepted-lawful}
 use Rattle.call.proofs.Calls.{accepted}
 use Rattle.graph.specs.Plan.{automatonOf, systemOfModel}
 use Rattle.graph.specs.States.{states}

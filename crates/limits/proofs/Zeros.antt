@@ -29,10 +29,10 @@ filled-all {a₀} {a} {i} F b =
     ∙ append-nil (replicate (length a₀) 0)
 
 -- what stands in a list of zeros
+pub zeros : (n i : ℕ) → getD (replicate {A = ℕ} n 0) i 0 ≡ 0
+zeros zero i = refl
+zeros (suc n) zero = refl
+zeros (suc n) (suc i) = zeros n i
+
 pub zero-at : {a : List ℕ} (n : ℕ) → a ≡ replicate n 0 → (i : ℕ) → getD a i 0 ≡ 0
-zero-at {a} n e i = ap (λ (l : List ℕ). getD l i 0) e ∙ of n i
-  where
-    of : (n i : ℕ) → getD (replicate {A = ℕ} n 0) i 0 ≡ 0
-    of zero i = refl
-    of (suc n) zero = refl
-    of (suc n) (suc i) = of n i
+zero-at {a} n e i = ap (λ (l : List ℕ). getD l i 0) e ∙ zeros n i

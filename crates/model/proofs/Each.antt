@@ -1,13 +1,13 @@
--- Laws of rounds, and of a test that holds somewhere below a bound.
+-- Laws of rounds, and of a test that holds somewhere or everywhere below a bound.
 use Prim.Native.Nat.{ℕ, suc, zero, _+_, _≤_, _<_}
 use native.Mathlib.Omega.{arith}
 use native.Mathlib.Numerals.{add-one}
 use mathlib.Core.Path.{_≡_, refl, sym, ap, _∙_}
 use mathlib.Core.Logic.{_↔_}
-use mathlib.Core.Bool.{Bool, true, false, _||_, cond}
+use mathlib.Core.Bool.{Bool, true, false, _&&_, _||_, cond}
 use lib.Dec.{eqb}
 use borrow.Author.Tests.{eqb-true, eqb-false}
-use Rattle.model.specs.Each.{each, someBelow}
+use Rattle.model.specs.Each.{each, someBelow, allBelow}
 
 -- no round yet
 pub each-none : {A : Type 0} (f : ℕ → A → A) (s : A) → s ≡ each 0 f s
@@ -69,3 +69,32 @@ some-more t n r e = each-more (λ i s. t i || s) n false r e
 
 pub some-done : (t : ℕ → Bool) (n k : ℕ) (r : Bool) → r ≡ someBelow k t → k ≤ n → n ≤ k → r ≡ someBelow n t
 some-done t n k r e p q = each-done (λ i s. t i || s) n k false r e p q
+
+-- a test that holds everywhere
+
+all-sound : (t : ℕ → Bool) (n : ℕ) → allBelow n t ≡ true → (i : ℕ) → i < n → t i ≡ true
+unfolding each
+all-sound t zero e i h = absurd (omega arith)
+all-sound t (suc n) e i h = go (t n) refl e (eqb i n) refl (λ d. all-sound t n d i)
+  where
+    go : (b : Bool) → t n ≡ b → (b && allBelow n t) ≡ true → (s : Bool) → eqb i n ≡ s → (allBelow n t ≡ true → i < n → t i ≡ true) → t i ≡ true
+    go true q e true r ih = ap t (eqb-true i n r) ∙ q
+    go true q e false r ih = ih e (let d = eqb-false i n r in omega arith)
+    go false q e s r ih = absurd (false≢true e)
+
+all-complete : (t : ℕ → Bool) (n : ℕ) → ((i : ℕ) → i < n → t i ≡ true) → allBelow n t ≡ true
+unfolding each
+all-complete t zero h = refl
+all-complete t (suc n) h = rw (h n (omega arith)) (all-complete t n (λ i l. h i (omega arith)))
+
+pub all-law : (n : ℕ) (t : ℕ → Bool) → (allBelow n t ≡ true) ↔ ((i : ℕ) → i < n → t i ≡ true)
+all-law n t = (all-sound t n, all-complete t n)
+
+pub all-none : (t : ℕ → Bool) → true ≡ allBelow 0 t
+all-none t = each-none _ _
+
+pub all-more : (t : ℕ → Bool) (n : ℕ) (r : Bool) → r ≡ allBelow n t → (t n && r) ≡ allBelow (n + 1) t
+all-more t n r e = each-more (λ i s. t i && s) n true r e
+
+pub all-done : (t : ℕ → Bool) (n k : ℕ) (r : Bool) → r ≡ allBelow k t → k ≤ n → n ≤ k → r ≡ allBelow n t
+all-done t n k r e p q = each-done (λ i s. t i && s) n k true r e p q

@@ -3,8 +3,8 @@ use Prim.Native.Nat.{ℕ}
 use mathlib.Core.Path.{_≡_, refl, sym, ap, _∙_}
 use mathlib.Core.List.{List, [], _∷_}
 use borrow.Author.Tests.{ne-eqb}
-use Rattle.model.specs.declared.Reading.{Reading}
-use Rattle.model.specs.Accept.{readModel}
+use Rattle.parser.specs.declared.Reading.{Reading}
+use Rattle.plan_reader.specs.Accept.{readModel}
 use Rattle.graph.specs.Plan.{automatonOf}
 use Rattle.graph.specs.States.{states}
 use Rattle.robust.specs.Margin.{margin}

@@ -1,7 +1,7 @@
 -- The margin, beyond 01: how slight a drift is harmless for ever if the plan is safe. Refusals are the model's, 1 to 7.
 use mathlib.Core.List.{List, [], _∷_}
 use Prim.Native.Nat.{ℕ}
-use Rattle.model.specs.Accept.{readModel}
+use Rattle.plan_reader.specs.Accept.{readModel}
 use Rattle.graph.specs.Plan.{automatonOf}
 use Rattle.robust.specs.Margin.{margin}
 use Rattle.op_margin.specs.declared.Tolerance.{Tolerance}

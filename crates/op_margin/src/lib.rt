@@ -13,7 +13,7 @@ pub enum Tolerance {
 pub fn margin(bytes: &[u8]) -> Tolerance
     ensures { λ r. ⌜ toleranceAnswer r ≡ marginAnswer (now (bytes .entry)) ⌝ }
 {
-    let read = model::read_model(bytes);
+    let read = plan_reader::read_model(bytes);
     let refusal = read.refusal;
     if refusal != 0 {
         return Tolerance::Refused(refusal);

@@ -4,8 +4,8 @@ use native.Mathlib.Omega.{arith}
 use mathlib.Core.Path.{_≡_, refl, _∙_}
 use mathlib.Core.List.{List}
 use lib.ListN.{length}
-use Rattle.model.specs.declared.Reading.{Reading}
-use Rattle.model.specs.Accept.{readModel}
+use Rattle.parser.specs.declared.Reading.{Reading}
+use Rattle.plan_reader.specs.Accept.{readModel}
 use Rattle.canonical.specs.Canonical.{shortestPlan}
 use Rattle.spelling.specs.declared.Stored.the-variants.{Bytes, Refused}
 use Rattle.spelling.specs.Lays.{filled}

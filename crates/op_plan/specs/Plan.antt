@@ -3,7 +3,7 @@ use mathlib.Core.List.{List}
 use Prim.Native.Nat.{ℕ}
 use Rattle.number.specs.Answer.{Answer}
 use Rattle.spelling.specs.Calls.{bytesAnswer, bytesOutput}
-use Rattle.model.specs.Accept.{readModel}
+use Rattle.plan_reader.specs.Accept.{readModel}
 use Rattle.canonical.specs.Canonical.{shortestPlan}
 
 -- what it says of these bytes with an output of so many bytes: 1 to 7, then 9, or the number of bytes

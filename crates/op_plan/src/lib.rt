@@ -13,7 +13,7 @@ pub fn write_plan(bytes: &[u8], out: &mut [u8]) -> Stored
     ensures { λ r. ⌜ storedAnswer r ≡ planAnswer (now (bytes .entry)) (length (now (out .entry))) ⌝ }
     ensures { λ _. ⌜ now (out .exit) ≡ planOutput (now (bytes .entry)) (now (out .entry)) ⌝ }
 {
-    let read = model::read_model(bytes);
+    let read = plan_reader::read_model(bytes);
     let refusal = read.refusal;
     if refusal != 0 {
         return Stored::Refused(refusal);

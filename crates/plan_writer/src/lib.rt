@@ -10,8 +10,8 @@ ghost use Rattle.spelling.specs.Lays.{Lays, maxBytes, filled};
 ghost use Rattle.model.specs.Each.{gather};
 ghost use Rattle.model.specs.Model.{Lawful};
 ghost use Rattle.canonical.specs.Canonical.{headerNumbers, stayNumbers, guardNumbers, locationNumbers, edgeNumbers, shortestPlan};
-use model::Reading;
 use model::STRIDE;
+use parser::Reading;
 use stay_limits::blank_limit;
 
 // A number of the plan.

@@ -17,7 +17,7 @@ use Rattle.theory.proofs.Sorted.{from-law}
 use Rattle.region.specs.View.{maskBits}
 use Rattle.model.specs.declared.Model.{Model}
 use Rattle.model.specs.Model.{keeps}
-use Rattle.model.specs.Cycle.{DrawingWalk, here, step, LeavesUnreset}
+use Rattle.edge_walks.specs.Cycle.{DrawingWalk, here, step, LeavesUnreset}
 use Rattle.graph.specs.Plan.{edgeOf, automatonOf}
 use Rattle.robust.specs.Robust.{EdgeWalk, resetsClock, LoopsReset}
 

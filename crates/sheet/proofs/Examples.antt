@@ -12,16 +12,14 @@ use Rattle.number.specs.Number.{readNumber, spell}
 use Rattle.number.specs.Shortest.{readSpelled}
 use Rattle.evidence_number.specs.Evidence.{readEvidence}
 use Rattle.model.specs.Each.{each}
-use Rattle.model.specs.Parse.{fieldAt, kindAt, invariantAt, endsAt, guardAt, resolved, parseBody, parseCounts, parseModel}
-use Rattle.model.specs.Cycle.{markEdge, roundOf, survivors, hasCycle, unreset}
-use Rattle.model.specs.Accept.{readModel}
+use Rattle.parser.specs.Parse.{fieldAt, kindAt, invariantAt, endsAt, guardAt, resolved, parseBody, parseCounts, parseModel}
 use Rattle.graph.specs.Plan.{automatonOf}
 use Rattle.sheet_numbers.specs.Numbers.{numberKeeps, numbersFrom}
 use Rattle.sheet.specs.Answer.{sheetRefusal, sheetAnswer}
 
 -- the answers to sheets of a model, both as bytes; a sheet's numbers begin after its first byte
 abbrev answers : List ℕ → List (List ℕ) → List ℕ
-answers model sheets = map (λ bs. sheetAnswer (readModel model .model) bs 1) sheets
+answers model sheets = map (λ bs. sheetAnswer (parseModel model .model) bs 1) sheets
 
 cases :
     -- "model 1,1,1,1,0,0,0,0 has sheet 1,5,3,1"
@@ -65,5 +63,5 @@ cases :
     ∷ (1 ∷ 7 ∷ 5 ∷ 3 ∷ 0 ∷ 0 ∷ 1 ∷ [])
     ∷ (1 ∷ 7 ∷ 5 ∷ 3 ∷ 4 ∷ 3 ∷ 1 ∷ []) ∷ [])
     ≡ 0 ∷ 0 ∷ 12 ∷ 12 ∷ [])
-unfolding sheetRefusal numbersFrom numberKeeps readEvidence readSpelled readNumber spell keeps all any tab same systemOf automatonOf flowTest beside stepFrom timeFrom jumpFrom stateAt numberOf indexIn sameRegion allowedState locationOf regionOf regionCount allowed guardHolds regions lawful fits attains face shares hasCorner corners readModel parseModel parseCounts parseBody each kindAt invariantAt endsAt guardAt resolved fieldAt unreset hasCycle survivors roundOf markEdge
+unfolding sheetRefusal numbersFrom numberKeeps readEvidence readSpelled readNumber spell keeps all any tab same systemOf automatonOf flowTest beside stepFrom timeFrom jumpFrom stateAt numberOf indexIn sameRegion allowedState locationOf regionOf regionCount allowed guardHolds regions lawful fits attains face shares hasCorner corners parseModel parseCounts parseBody each kindAt invariantAt endsAt guardAt resolved fieldAt
 cases = (refl, refl, refl, refl)

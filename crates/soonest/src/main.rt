@@ -57,7 +57,7 @@ fn show_times(plan: &[u8], locations: u8) {
 fn main() {
     let mut input = [0u8; INPUT];
     let n = io::read_full(STDIN_FILENO, &mut input);
-    let read = model::read_model(&input[..n]);
+    let read = plan_reader::read_model(&input[..n]);
     if read.refusal != 0 {
         refuse(read.refusal);
     } else {

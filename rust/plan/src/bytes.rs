@@ -1,7 +1,7 @@
 //! Model bytes of a plan, and the plan of model bytes.
 
 use crate::flaw::{Flaw, Numbers};
-use crate::loops::unreset_loops;
+use crate::loops::{uncounted_words, unreset_loops};
 use crate::mistake::range_words;
 use crate::{Edge, Location, Plan, Units};
 use second::draft::{Draft, DraftEdge};
@@ -56,8 +56,7 @@ pub fn decode(bytes: &[u8]) -> Result<Plan, Flaw> {
     numbers.end("the model")?;
     let plan = plan_of(&reading, &stays);
     for clock in 0..plan.clocks.len() {
-        let edges: Vec<&Edge> = plan.edges.iter().collect();
-        if let Some(found) = unreset_loops(plan.locations.len(), &edges, clock).first() {
+        if let Some(found) = unreset_loops(&plan, clock).first() {
             return Err(unreset(&plan, clock, found));
         }
     }
@@ -104,9 +103,14 @@ fn plan_of(reading: &Reading, stays: &[Option<u8>]) -> Plan {
 fn unreset(plan: &Plan, clock: usize, found: &[usize]) -> Flaw {
     let edges: Vec<String> = found.iter().map(|&at| plan.edge_title(at)).collect();
     let clock_name = &plan.clocks[clock];
+    let each = match edges.len() {
+        1 => "which",
+        _ => "each of which",
+    };
     let words = format!(
-        "clock {clock} ({clock_name}) is never reset on the loop of {}",
-        edges.join(", ")
+        "clock {clock} ({clock_name}) is never reset on the loop of {}, {each} can open{}",
+        edges.join(", "),
+        uncounted_words(plan)
     );
     Flaw {
         refusal: CLOCK_UNRESET,

@@ -16,6 +16,7 @@ pub mod lex;
 pub mod loops;
 pub mod marks;
 pub mod mistake;
+pub mod opening;
 pub mod parse;
 pub mod print;
 pub mod resolve;

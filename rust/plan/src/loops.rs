@@ -1,29 +1,32 @@
 //! Loops of edges that leave a clock unreset (refusal 7).
 
-use crate::Edge;
+use crate::{Edge, Plan};
 
-/// Loops of edges without a reset of the clock, no two of which share an
-/// edge, shortest first. None is left once these are mended or taken away.
-pub fn unreset_loops(locations: usize, edges: &[&Edge], clock: usize) -> Vec<Vec<usize>> {
-    let keeps = |edge: &Edge| edge.resets >> clock & 1 == 0;
-    let mut kept: Vec<usize> = (0..edges.len()).filter(|&at| keeps(edges[at])).collect();
+/// Loops of edges that can open alone, without a reset of the clock, no two of
+/// which share an edge, shortest first. None is left once these are mended or
+/// taken away.
+pub fn unreset_loops(plan: &Plan, clock: usize) -> Vec<Vec<usize>> {
+    let counts = |edge: &Edge| edge.resets >> clock & 1 == 0 && plan.opens_alone(edge);
+    let edges = 0..plan.edges.len();
+    let mut kept: Vec<usize> = edges.filter(|&at| counts(&plan.edges[at])).collect();
     let mut found = Vec::new();
-    while let Some(shortest) = shortest_loop(locations, edges, &kept) {
+    while let Some(shortest) = shortest_loop(plan, &kept) {
         kept.retain(|at| !shortest.contains(at));
         found.push(shortest);
     }
     found
 }
 
-fn shortest_loop(locations: usize, edges: &[&Edge], kept: &[usize]) -> Option<Vec<usize>> {
-    (0..locations)
-        .filter_map(|home| loop_from(home, locations, edges, kept))
+fn shortest_loop(plan: &Plan, kept: &[usize]) -> Option<Vec<usize>> {
+    (0..plan.locations.len())
+        .filter_map(|home| loop_from(home, plan, kept))
         .min_by_key(Vec::len)
 }
 
 /// The shortest way from a location back to itself, breadth first.
-fn loop_from(home: usize, locations: usize, edges: &[&Edge], kept: &[usize]) -> Option<Vec<usize>> {
-    let mut way: Vec<Option<Vec<usize>>> = vec![None; locations];
+fn loop_from(home: usize, plan: &Plan, kept: &[usize]) -> Option<Vec<usize>> {
+    let edges = &plan.edges;
+    let mut way: Vec<Option<Vec<usize>>> = vec![None; plan.locations.len()];
     let mut queue = std::collections::VecDeque::from([(home, Vec::new())]);
     while let Some((at, so_far)) = queue.pop_front() {
         for &number in kept.iter().filter(|&&number| edges[number].from == at) {
@@ -41,32 +44,72 @@ fn loop_from(home: usize, locations: usize, edges: &[&Edge], kept: &[usize]) -> 
     None
 }
 
+/// What the loops named leave out, where a plan has edges that do not count.
+pub fn uncounted_words(plan: &Plan) -> &'static str {
+    match plan.has_shut_edges() {
+        true => "; edges that can never open do not count",
+        false => "",
+    }
+}
+
 #[cfg(test)]
 mod tests {
     use super::*;
+    use crate::{Location, Units, CEILING_MARK};
 
-    fn edge(from: usize, to: usize, resets: u8) -> Edge {
+    /// An edge whose only guard is the low of the one clock.
+    fn edge(from: usize, to: usize, resets: u8, low: u8) -> Edge {
         Edge {
             name: None,
             from,
             to,
             resets,
-            guard: Vec::new(),
+            guard: vec![(low, 2)],
+        }
+    }
+
+    /// A plan of these edges between locations with these stay limits.
+    fn plan(limits: &[u8], edges: &[Edge]) -> Plan {
+        let location = |&limit: &u8| Location {
+            name: String::new(),
+            forbidden: false,
+            stay: vec![Some(limit)],
+        };
+        Plan {
+            mark: CEILING_MARK,
+            clocks: vec!["x".to_string()],
+            ceiling: 2,
+            start: 0,
+            locations: limits.iter().map(location).collect(),
+            edges: edges.to_vec(),
+            units: Units::default(),
         }
     }
 
     #[test]
     fn loops_without_a_reset() {
         let edges = [
-            edge(0, 1, 1),
-            edge(1, 2, 0),
-            edge(2, 1, 0),
-            edge(2, 0, 0),
-            edge(2, 2, 2),
+            edge(0, 1, 1, 0),
+            edge(1, 2, 0, 0),
+            edge(2, 1, 0, 0),
+            edge(2, 0, 0, 0),
+            edge(2, 2, 2, 0),
         ];
-        let edges: Vec<&Edge> = edges.iter().collect();
-        assert_eq!(unreset_loops(3, &edges, 0), [vec![4], vec![1, 2]]);
-        assert_eq!(unreset_loops(3, &edges, 1), [vec![1, 2]]);
-        assert_eq!(unreset_loops(3, &edges[3..4], 1), Vec::<Vec<usize>>::new());
+        let all = plan(&[2; 3], &edges);
+        assert_eq!(unreset_loops(&all, 0), [vec![4], vec![1, 2]]);
+        assert_eq!(unreset_loops(&all, 1), [vec![1, 2]]);
+        let one = plan(&[2; 3], &edges[3..4]);
+        assert_eq!(unreset_loops(&one, 1), Vec::<Vec<usize>>::new());
+    }
+
+    /// An edge that can never open is in no loop, and hides none.
+    #[test]
+    fn loops_that_count() {
+        let there = |low| {
+            let edges = [edge(0, 1, 0, low), edge(1, 0, 0, 0), edge(1, 1, 0, 2)];
+            unreset_loops(&plan(&[2, 1], &edges), 0)
+        };
+        assert_eq!(there(1), [vec![0, 1]]);
+        assert_eq!(there(2), Vec::<Vec<usize>>::new());
     }
 }

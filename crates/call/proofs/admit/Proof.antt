@@ -2,7 +2,7 @@
 use borrow.Author.Needs.{needs}
 use native.Mathlib.Omega.{arith}
 use mathlib.Core.Path.{sym, _∙_}
-use Rattle.model.proofs.Accepted.{reading-lawful}
+use Rattle.plan_reader.proofs.Accepted.{reading-lawful}
 use Rattle.call.proofs.Calls.{by-bytes, by-scratch, by-none}
 use Rattle.call.proofs.admit.Statement.{statement}
 use Rattle.call.proofs.admit.Tie as tie

@@ -1,7 +1,7 @@
 -- `op_margin::margin` meets its contract.
 use native.Mathlib.Omega.{arith}
 use borrow.Author.Needs.{needs}
-use Rattle.model.proofs.Accepted.{reading-lawful}
+use Rattle.plan_reader.proofs.Accepted.{reading-lawful}
 use Rattle.op_margin.proofs.Margins.{margin-refused, margin-done}
 use Rattle.op_margin.proofs.margin.Statement.{statement}
 use Rattle.op_margin.proofs.margin.Tie as tie

@@ -2,7 +2,7 @@
 use borrow.Author.Needs.{needs}
 use native.Mathlib.Omega.{arith}
 use mathlib.Core.Path.{_∙_}
-use Rattle.model.proofs.Accepted.{reading-lawful}
+use Rattle.plan_reader.proofs.Accepted.{reading-lawful}
 use Rattle.op_plan.proofs.Plans.{plan-refused, plan-untouched, plan-short, plan-written, plan-filled}
 use Rattle.op_plan.proofs.write_plan.Statement.{statement}
 use Rattle.op_plan.proofs.write_plan.Tie as tie

@@ -6,10 +6,10 @@ use native.Mathlib.Omega.{arith}
 use lib.Seq.{length-take-le}
 use borrow.Author.Needs.{needs}
 use Rattle.limits.specs.Limits.{maxStates}
-use Rattle.model.specs.declared.Reading.{Reading}
+use Rattle.parser.specs.declared.Reading.{Reading}
 use Rattle.model.specs.Model.{Lawful}
-use Rattle.model.specs.Accept.{readModel}
-use Rattle.model.proofs.Accepted.{accepted-lawful}
+use Rattle.plan_reader.specs.Accept.{readModel}
+use Rattle.plan_reader.proofs.Accepted.{accepted-lawful}
 use Rattle.graph.specs.States.{states}
 use Rattle.graph.proofs.States.{states-limit}
 use Rattle.cases.proofs.counting.rounds.Statement.{statement}

@@ -1,0 +1,3 @@
+-- Walks of edges on the drawing alone, and which of them count.
+pub mod Opening
+pub mod Cycle

@@ -1,0 +1,60 @@
+// Walks of edges on the drawing alone: whether a closed walk that counts leaves some clock unreset.
+mod cycle;
+mod opening;
+
+ghost use mathlib.Core.Path.{_≡_};
+ghost use mathlib.Core.Bool.{_||_};
+ghost use Prim.Native.Nat.{_<_};
+ghost use Rattle.limits.specs.Limits.{maxClocks};
+ghost use Rattle.model.specs.Model.{Lawful};
+ghost use Rattle.edge_walks.specs.Opening.{opensAlone, edgeFlags};
+ghost use Rattle.edge_walks.specs.Cycle.{counts, unresetAt, unreset};
+use cycle::has_cycle;
+use limits::MAX_EDGES;
+use model::Model;
+use opening::keeps_clock;
+use opening::open_edges;
+use opening::set_flag;
+
+// Of the edges that can open alone, those that keep the clock.
+fn counted_edges(m: Model, opens: [u8; MAX_EDGES], x: u8) -> [u8; MAX_EDGES]
+    requires { ⌜ Lawful m ⌝ }
+    requires { ⌜ x < maxClocks ⌝ }
+    requires { ⌜ opens ≡ edgeFlags m (opensAlone m) ⌝ }
+    ensures { λ r. ⌜ r ≡ edgeFlags m (counts m x) ⌝ }
+{
+    let count = m.edges as usize;
+    let mut flags = [0; MAX_EDGES];
+    for e in 0..count {
+        let passes = keeps_clock(m.reset[e], x) & (opens[e] == 1);
+        let f = set_flag(flags, e, passes);
+        flags = f;
+    }
+    flags
+}
+
+fn or_unreset(m: Model, opens: [u8; MAX_EDGES], x: u8, found: bool) -> bool
+    requires { ⌜ Lawful m ⌝ }
+    requires { ⌜ x < maxClocks ⌝ }
+    requires { ⌜ opens ≡ edgeFlags m (opensAlone m) ⌝ }
+    ensures { λ r. ⌜ r ≡ (unresetAt m x || found) ⌝ }
+{
+    if has_cycle(m, counted_edges(m, opens, x)) {
+        return true;
+    }
+    found
+}
+
+// A closed walk that counts leaves some clock unreset. Which edges can open alone is the same for every clock, so it is looked up once.
+pub fn leaves_unreset(m: Model) -> bool
+    requires { ⌜ Lawful m ⌝ }
+    ensures { λ r. ⌜ r ≡ unreset m ⌝ }
+{
+    let opens = open_edges(m);
+    let n = m.clocks;
+    let mut found = false;
+    for x in 0..n {
+        found = or_unreset(m, opens, x, found);
+    }
+    found
+}

@@ -1,0 +1,2 @@
+-- Which models are accepted.
+pub mod Accept
