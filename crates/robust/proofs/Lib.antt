@@ -25,6 +25,8 @@ pub mod Forever
 pub mod Lift
 -- Widened runs that drift from one exact run towards another along the same edges.
 pub mod Blend
+-- Which edges can open.
+pub mod Opening
 -- Closed walks: their corners, and that they reset each clock.
 pub mod Loop
 -- Safe for ever, by ranks of the states with a corner that is in and a corner that is out.

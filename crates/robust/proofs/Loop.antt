@@ -16,10 +16,11 @@ use Rattle.theory.specs.RegionGraph.{Allowed, Enabled, Flow, FlowWalk, after}
 use Rattle.theory.proofs.Below.{or-cases}
 use Rattle.robust.specs.Robust.{EdgeWalk, resetsClock, LoopsReset}
 use Rattle.robust.proofs.Clocks.{has-top}
+use Rattle.robust.proofs.Opening.{jump-opens}
 use Rattle.robust.proofs.Lift.{time-onward, time-back, jump-onward, jump-back, corner-upto, corner-at-least}
 use Rattle.robust.proofs.Blend.{Move, Trace, mask, flags}
 
--- ---- a walk by its moves, and by its edges
+-- ---- a walk by its moves, and by its edges, each of which can open alone
 
 abbrev pub word : {m : Automaton} {l k n : ℕ} {xs ys : Region} → FlowWalk m l xs k ys n → List Move
 word FlowWalk.stop = []
@@ -34,7 +35,7 @@ taken (Move.take g ∷ ms) = g ∷ taken ms
 pub walk-edges : {m : Automaton} {l k n : ℕ} {xs ys : Region} (w : FlowWalk m l xs k ys n) → EdgeWalk m l k (taken (word w))
 walk-edges FlowWalk.stop = EdgeWalk.stop
 walk-edges (FlowWalk.move (Flow.time a b) w) = walk-edges w
-walk-edges (FlowWalk.move (Flow.jump g o a b) w) = EdgeWalk.move g (o .drawn) (o .here) (walk-edges w)
+walk-edges (FlowWalk.move (Flow.jump g o a b) w) = EdgeWalk.move g (o .drawn) (o .here) (jump-opens o a b) (walk-edges w)
 
 -- ---- it lifts to traces of corners, from each corner and to each corner
 

@@ -16,7 +16,7 @@ use Rattle.theory.specs.Replay.{Move, target, moveReplays, replays, replayEnd, 
 use Rattle.theory.specs.StateGraph.{Within, regionCount, locationOf, regionOf, sameRegion, indexIn, numberOf, allowedState, stateAt, timeFrom, jumpFrom, stepFrom, beside, systemOf, labelledOf}
 use Rattle.theory.proofs.Below.{ltb↔}
 use Rattle.theory.proofs.Lists.{every-law}
-use Rattle.robust.specs.Robust.{LoopsReset, EdgeWalk, Fragile}
+use Rattle.robust.specs.Robust.{OpensAlone, EdgeWalk, LoopsReset, Fragile}
 use Rattle.robust.specs.Plans.{stuckEdge1, stuckPlan, stuckTrail}
 
 stuck-passes : passes (labelledOf stuckPlan 3) stuckTrail ≡ true
@@ -29,10 +29,15 @@ stuck-within = record { start = omega arith; targets = every-law (λ g. ltb↔ (
 stuck-capped : Capped stuckPlan
 stuck-capped = record { limits = λ l. Each.more {x = 1} {c = 1} (omega arith) Each.none }
 
--- 01 refuses it
+-- its low, 0, is within every limit
+stuck-opens : OpensAlone stuckPlan stuckEdge1
+stuck-opens = record { leaves = Each.more {x = 0} {c = 1} (omega arith) Each.none; enters = Each.more {x = 0} {c = 1} (omega arith) Each.none }
+
+-- it is refused
 pub stuck-refused : LoopsReset stuckPlan → ⊥
 stuck-refused ok =
-    false≢true (ok .resets 0 (omega arith) 1 stuckEdge1 [] (EdgeWalk.move stuckEdge1 (List·Memᴰ·tail (List·Memᴰ·head refl)) refl EdgeWalk.stop))
+    false≢true
+    (ok .resets 0 (omega arith) 1 stuckEdge1 [] (EdgeWalk.move stuckEdge1 (List·Memᴰ·tail (List·Memᴰ·head refl)) refl stuck-opens EdgeWalk.stop))
 
 -- ---- at drift 1/3 the value in location 1 is at least 2/3
 

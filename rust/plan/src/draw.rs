@@ -128,8 +128,13 @@ impl<'a> Drawing<'a> {
 
     fn edge_curve(&self, svg: &mut Svg, at: usize) {
         let curve = &self.layout.curves[at];
-        let how = stroke_of(&self.marks.edges[at]);
-        svg.group(&self.plan.edge_title(at), |svg| {
+        let how = match stroke_of(&self.marks.edges[at]) {
+            Stroke::Plain if !self.plan.opens_alone(&self.plan.edges[at]) => Stroke::Shut,
+            stroke => stroke,
+        };
+        let title = self.plan.shut_words(at);
+        let title = title.unwrap_or_else(|| self.plan.edge_title(at));
+        svg.group(&title, |svg| {
             for style in stroke(how) {
                 svg.curve(curve, &style);
             }
@@ -175,6 +180,8 @@ impl<'a> Drawing<'a> {
 #[derive(Clone, Copy, Debug, PartialEq, Eq)]
 enum Stroke {
     Plain,
+    /// It can never open.
+    Shut,
     Trail,
     Loop,
     TrailAndLoop,
@@ -184,6 +191,7 @@ impl Stroke {
     fn colour(self) -> &'static str {
         match self {
             Stroke::Plain => PLAIN,
+            Stroke::Shut => FAINT,
             Stroke::Trail | Stroke::TrailAndLoop => TRAIL,
             Stroke::Loop => LOOP,
         }
@@ -199,13 +207,15 @@ fn stroke_of(mark: &Mark) -> Stroke {
     }
 }
 
-/// The styles that a line is drawn in, one over the other. Loops are dashed,
-/// so that they are told from the trail without colours too.
+/// The styles that a line is drawn in, one over the other. Loops are dashed and
+/// edges that can never open dotted, so that all are told apart without colours
+/// too.
 fn stroke(how: Stroke) -> Vec<String> {
     let line = |colour: &str, width: f64| format!("stroke=\"{colour}\" stroke-width=\"{width}\"");
     let dashed = |width: f64| line(LOOP, width) + " stroke-dasharray=\"8 4\"";
     match how {
         Stroke::Plain => vec![line(PLAIN, 1.3)],
+        Stroke::Shut => vec![line(FAINT, 1.3) + " stroke-dasharray=\"2 4\""],
         Stroke::Trail => vec![line(TRAIL, 3.0)],
         Stroke::Loop => vec![dashed(3.0)],
         // The loop shows as a rim on both sides of the trail.
@@ -258,6 +268,9 @@ fn stay_lines(plan: &Plan, at: usize) -> Vec<Line> {
 fn edge_lines(plan: &Plan, at: usize, mark: &Mark) -> Vec<Line> {
     let edge = &plan.edges[at];
     let mut lines = vec![bold(&edge_name(plan, at), FAINT)];
+    if !plan.opens_alone(edge) {
+        lines.push(plain("never opens", FAINT));
+    }
     let guard = broken(&plan.guard_words(edge));
     lines.extend(guard.iter().map(|line| plain(&pretty(line), PLAIN)));
     if guard.is_empty() {

@@ -49,9 +49,12 @@ const REFUSALS: [(&str, &str); LAST as usize] = [
     ),
     (
         "a loop of edges leaves a clock unreset",
-        "Whoever walks along edges back to where he began must pass a reset of every clock. \
-         Let one edge of the loop reset the clock, even if the loop can never be walked in \
-         time.",
+        "Whoever walks along edges back to where he began must pass a reset of every clock, if \
+         each of these edges can open alone: each low is within the stay limit of the location \
+         that the edge leaves and, for a clock that it does not reset, of the one that it enters. \
+         Let one edge of the loop reset the clock. An edge that can never open does not count. \
+         Each edge is looked at by itself, clock by clock, so a loop counts even where its edges \
+         never open one after the other.",
     ),
     (
         "the lent scratch memory is too small for the plan",

@@ -57,27 +57,27 @@ mod tests {
     use super::*;
     use crate::{Location, Units, CEILING_MARK};
 
-    /// An edge whose only guard is the low of the one clock.
+    /// An edge with this low of the first of two clocks.
     fn edge(from: usize, to: usize, resets: u8, low: u8) -> Edge {
         Edge {
             name: None,
             from,
             to,
             resets,
-            guard: vec![(low, 2)],
+            guard: vec![(low, 2), (0, 2)],
         }
     }
 
-    /// A plan of these edges between locations with these stay limits.
+    /// A plan of these edges between locations with these limits of the first.
     fn plan(limits: &[u8], edges: &[Edge]) -> Plan {
         let location = |&limit: &u8| Location {
             name: String::new(),
             forbidden: false,
-            stay: vec![Some(limit)],
+            stay: vec![Some(limit), None],
         };
         Plan {
             mark: CEILING_MARK,
-            clocks: vec!["x".to_string()],
+            clocks: ["x", "y"].map(str::to_string).to_vec(),
             ceiling: 2,
             start: 0,
             locations: limits.iter().map(location).collect(),

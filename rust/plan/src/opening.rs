@@ -29,8 +29,9 @@ impl Plan {
         bars.find(|bar| edge.guard[bar.clock].0 > self.limit(bar.location, bar.clock))
     }
 
-    /// Why an edge can never open, if it cannot.
-    pub fn bar_words(&self, edge: &Edge) -> Option<String> {
+    /// One sentence on an edge that can never open, and why; none on others.
+    pub fn shut_words(&self, number: usize) -> Option<String> {
+        let edge = &self.edges[number];
         let Bar { clock, location } = self.bar(edge)?;
         let (name, low) = (&self.clocks[clock], edge.guard[clock].0);
         let kept = match location == edge.from {
@@ -42,7 +43,9 @@ impl Plan {
             false => String::new(),
         };
         Some(format!(
-            "it needs {name}>={low}{kept}, but {} may be stayed in while {name}<={}{by}",
+            "{} can never open: it needs {name}>={low}{kept}, but {} may be stayed in while \
+             {name}<={}{by}",
+            self.edge_title(number),
             self.quoted(location),
             self.limit(location, clock)
         ))

@@ -2,12 +2,12 @@
 //! everything that cannot be is a mistake.
 
 use crate::lex::Token;
-use crate::loops::unreset_loops;
+use crate::loops::{uncounted_words, unreset_loops};
 use crate::mistake::{guess, range_words, shortened, Mistake};
 use crate::parse::{lines, Bound, EdgeLine, End, Lines, LocationLine, NumberLine, RESERVED};
 use crate::{Edge, Location, Plan, Units, CEILING_MARK, EDGES_MARK};
 use second::limits::{MAX_CEILING, MAX_CLOCKS, MAX_EDGES, MAX_LOCATIONS};
-use std::collections::HashMap;
+use std::collections::{HashMap, HashSet};
 use std::ops::RangeInclusive;
 
 /// Reads a text plan; or all its mistakes, by line and column.
@@ -16,7 +16,7 @@ pub fn read_text(text: &str) -> Result<Plan, Vec<Mistake>> {
     let mut names = Names::new(&lines, end_of(text));
     let locations = names.locations(&lines);
     let edges = names.edges(&lines);
-    names.loops(&edges);
+    names.loops(&names.understood(&lines, &locations, &edges));
     let units = names.units(&lines);
     let mut mistakes = lines.mistakes;
     mistakes.append(&mut names.mistakes);
@@ -54,6 +54,15 @@ struct Names {
     first_of: HashMap<String, (usize, usize)>,
     end: (usize, usize),
     mistakes: Vec<Mistake>,
+    /// Lines with a mistake that leaves the mark or a limit in doubt.
+    doubtful: HashSet<usize>,
+}
+
+/// The plan as far as it is understood, for a look at its loops, and the line
+/// of each edge.
+struct Understood {
+    plan: Plan,
+    lines: Vec<usize>,
 }
 
 impl Names {
@@ -67,6 +76,7 @@ impl Names {
             first_of: HashMap::new(),
             end,
             mistakes: Vec::new(),
+            doubtful: lines.mistakes.iter().map(|mistake| mistake.line).collect(),
         };
         names.mark_of(lines);
         names.clock_names(lines);
@@ -81,6 +91,12 @@ impl Names {
             column: token.column,
             words: words.into(),
         });
+    }
+
+    /// The same of one that leaves the mark or a limit in doubt.
+    fn doubtful(&mut self, token: &Token, words: impl Into<String>) {
+        self.doubtful.insert(token.line);
+        self.wrong(token, words);
     }
 
     fn missing(&mut self, words: &str) {
@@ -153,7 +169,7 @@ impl Names {
         let ((opening, first), more) = said.split_first()?;
         for (again, _) in more {
             let words = format!("the {what} is already given in line {}", opening.line);
-            self.wrong(again, words);
+            self.doubtful(again, words);
         }
         let token = first.as_ref()?;
         let number = token.text.parse().ok();
@@ -161,7 +177,7 @@ impl Names {
         if number.is_none() {
             let range = range_words((*range.start()).into(), (*range.end()).into());
             let words = format!("the {what} is {}, but it can only be {range}", token.text);
-            self.wrong(token, words);
+            self.doubtful(token, words);
         }
         number
     }
@@ -210,8 +226,9 @@ impl Names {
             .map_or(String::new(), |name| name.text.clone());
         if let Some(token) = &line.name {
             match self.first_of.get(&name) {
-                Some((_, first)) => {
+                Some(&(_, first)) => {
                     let words = format!("there is a location '{name}' already, in line {first}");
+                    self.doubtful.insert(first);
                     self.wrong(token, words);
                 }
                 None => {
@@ -231,7 +248,7 @@ impl Names {
         } else {
             hint
         };
-        self.wrong(token, format!("there is no {what} '{}'{list}", token.text));
+        self.doubtful(token, format!("there is no {what} '{}'{list}", token.text));
     }
 
     /// A clock; without a usable list of clocks nothing can be said about it.
@@ -265,7 +282,7 @@ impl Names {
                 } else {
                     "the highest ceiling there is,"
                 };
-                self.wrong(
+                self.doubtful(
                     token,
                     format!("the limit {} is above {what} {most}", token.text),
                 );
@@ -291,7 +308,7 @@ impl Names {
         let mut stay = vec![None; self.clocks.len()];
         for bound in bounds {
             if bound.end != End::High {
-                self.wrong(
+                self.doubtful(
                     &bound.clock,
                     format!(
                         "a stay limit is an upper limit, such as {}<=1",
@@ -304,7 +321,7 @@ impl Names {
                 continue;
             };
             if stay[clock].is_some() {
-                self.wrong(
+                self.doubtful(
                     &bound.clock,
                     format!("clock '{}' has a stay limit here already", bound.clock.text),
                 );
@@ -382,7 +399,7 @@ impl Names {
                         "clock '{name}' is to be at least {low} and at most {high}, \
                          so the edge never opens"
                     );
-                    self.wrong(token, words);
+                    self.doubtful(token, words);
                 }
             }
             let number = |end: Option<(u8, &Token)>, or: u8| end.map_or(or, |(limit, _)| limit);
@@ -412,7 +429,7 @@ impl Names {
 
     fn two_limits(&mut self, clock: &Token, which: &str) {
         let words = format!("clock '{}' has two {which} limits on this edge", clock.text);
-        self.wrong(clock, words);
+        self.doubtful(clock, words);
     }
 
     /// The real units, each said once.
@@ -432,47 +449,92 @@ impl Names {
         units
     }
 
-    /// Loops that leave a clock unreset, among the edges that are understood
-    /// and not too many.
-    fn loops(&mut self, edges: &[Option<(Edge, usize)>]) {
-        let drawable = |edge: &Edge| edge.from.max(edge.to) < MAX_LOCATIONS;
-        let known: Vec<&(Edge, usize)> = edges
-            .iter()
-            .take(MAX_EDGES)
-            .flatten()
-            .filter(|(edge, _)| drawable(edge))
-            .collect();
-        let drawn: Vec<&Edge> = known.iter().map(|(edge, _)| edge).collect();
-        let locations = self.locations.len().min(MAX_LOCATIONS);
+    /// What is needed of the plan for its loops. What is in doubt is taken so
+    /// that the fewest edges open: no loop is named that may not count once the
+    /// mistakes are mended.
+    fn understood(
+        &self,
+        lines: &Lines,
+        locations: &[Location],
+        edges: &[Option<(Edge, usize)>],
+    ) -> Understood {
+        let mut locations = locations[..locations.len().min(MAX_LOCATIONS)].to_vec();
+        for (location, (opening, _)) in locations.iter_mut().zip(&lines.locations) {
+            if self.doubtful.contains(&opening.line) {
+                location.stay.fill(Some(0));
+            }
+        }
+        let edges = self.understood_edges(edges);
+        Understood {
+            lines: edges.iter().map(|(_, line)| *line).collect(),
+            plan: Plan {
+                mark: self.least_mark(lines),
+                clocks: self.clocks.clone(),
+                ceiling: self.ceiling.unwrap_or(MAX_CEILING),
+                start: 0,
+                locations,
+                edges: edges.into_iter().map(|(edge, _)| edge).collect(),
+                units: Units::default(),
+            },
+        }
+    }
+
+    /// The edges that are understood and not too many, with their lines.
+    fn understood_edges(&self, edges: &[Option<(Edge, usize)>]) -> Vec<(Edge, usize)> {
+        let most = self.ceiling.unwrap_or(MAX_CEILING);
+        let known = edges.iter().take(MAX_EDGES).flatten();
+        let drawn = known.filter(|(edge, _)| edge.from.max(edge.to) < MAX_LOCATIONS);
+        let mut drawn: Vec<(Edge, usize)> = drawn.cloned().collect();
+        for (edge, line) in &mut drawn {
+            if self.doubtful.contains(line) {
+                edge.guard.fill((most, 0));
+            }
+        }
+        drawn
+    }
+
+    /// The mark; if it is in doubt, the one with the lower limits.
+    fn least_mark(&self, lines: &Lines) -> u8 {
+        let mut said = lines.marks.iter();
+        match said.any(|(opening, _)| self.doubtful.contains(&opening.line)) {
+            true => EDGES_MARK,
+            false => self.mark,
+        }
+    }
+
+    /// Loops that leave a clock unreset.
+    fn loops(&mut self, understood: &Understood) {
         for clock in 0..self.clocks.len() {
-            for found in unreset_loops(locations, &drawn, clock) {
-                let words = self.loop_words(clock, &found, &known);
-                let line = found
-                    .iter()
-                    .map(|&at| known[at].1)
-                    .min()
-                    .expect("a loop has an edge");
+            for found in unreset_loops(&understood.plan, clock) {
+                let lines = found.iter().map(|&at| understood.lines[at]);
                 self.mistakes.push(Mistake {
-                    line,
+                    line: lines.min().expect("a loop has an edge"),
                     column: 1,
-                    words,
+                    words: understood.loop_words(clock, &found),
                 });
             }
         }
     }
+}
 
-    fn loop_words(&self, clock: usize, found: &[usize], known: &[&(Edge, usize)]) -> String {
-        let name = |location: usize| self.locations[location].as_str();
-        let mut way = vec![name(known[found[0]].0.from)];
-        way.extend(found.iter().map(|&at| name(known[at].0.to)));
-        let lines: Vec<String> = found.iter().map(|&at| known[at].1.to_string()).collect();
+impl Understood {
+    fn loop_words(&self, clock: usize, found: &[usize]) -> String {
+        let Understood { plan, lines } = self;
+        let name = |location: usize| plan.locations[location].name.as_str();
+        let mut way = vec![name(plan.edges[found[0]].from)];
+        way.extend(found.iter().map(|&at| name(plan.edges[at].to)));
+        let lines: Vec<String> = found.iter().map(|&at| lines[at].to_string()).collect();
+        let (plural, edges, one) = match lines.len() {
+            1 => ("", "its edge", "it"),
+            _ => ("s", "each of its edges", "one of them"),
+        };
         format!(
-            "the loop {} (line{} {}) never resets clock '{}'; one of its edges must, or drift \
-             could not be judged",
+            "the loop {} (line{plural} {}) never resets clock '{}', and {edges} can open; {one} \
+             must reset the clock, or drift could not be judged{}",
             way.join(" -> "),
-            if lines.len() == 1 { "" } else { "s" },
             lines.join(", "),
-            self.clocks[clock]
+            plan.clocks[clock],
+            uncounted_words(plan)
         )
     }
 }

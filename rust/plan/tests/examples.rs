@@ -22,6 +22,7 @@ fn verdicts() {
     assert_eq!(lines("poll-mended"), "verdict safe\nstates 268\nin 41\n");
     assert_eq!(lines("two-repeaters"), "verdict safe\nstates 3532\nin 37\n");
     assert_eq!(lines("hasty"), "verdict unsafe\nstates 1172\nsteps 9\n");
+    assert_eq!(lines("test-link"), "verdict safe\nstates 201\nin 0\n");
     assert!(lines("largest").starts_with("verdict safe\nstates 15816\n"));
 }
 
@@ -33,7 +34,7 @@ fn what_perfect_clocks_reach() {
     assert_eq!(class("poll"), Class::Drift);
     assert_eq!(class("poll-blank"), Class::Drift);
     assert_eq!(class("hasty"), Class::Plain);
-    for name in ["tiny", "poll-mended", "two-repeaters"] {
+    for name in ["tiny", "poll-mended", "two-repeaters", "test-link"] {
         assert_eq!(class(name), Class::Safe, "{name}");
     }
 }
@@ -47,7 +48,7 @@ fn runs_with_and_without_drift() {
         assert_eq!(run(name, 0), None, "{name}");
         assert!(run(name, 1).is_some(), "{name}");
     }
-    for name in ["poll-mended", "two-repeaters"] {
+    for name in ["poll-mended", "two-repeaters", "test-link"] {
         assert_eq!(run(name, 1), None, "{name}");
     }
     assert!(run("hasty", 0).is_some());

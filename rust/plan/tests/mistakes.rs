@@ -265,7 +265,7 @@ fn a_mistake_does_not_breed() {
 fn loops_without_a_reset() {
     assert_eq!(
         one("edge idle -> ringing reset x, y\nedge ringing -> ringing reset x"),
-        "6:1 the loop ringing -> ringing (line 6) never resets clock 'y'; one of its edges must, or drift could not be judged"
+        "6:1 the loop ringing -> ringing (line 6) never resets clock 'y', and its edge can open; it must reset the clock, or drift could not be judged"
     );
     let two = "clocks x y\nceiling 1\nlocation a start\nlocation b\nedge a -> b reset y\nedge b -> a\nedge a -> a\n";
     let found = mistakes(two);
@@ -273,6 +273,52 @@ fn loops_without_a_reset() {
     assert!(found[0].starts_with("5:1 the loop a -> b -> a (lines 5, 6) never resets clock 'x'"));
     assert!(found[1].starts_with("7:1 the loop a -> a (line 7) never resets clock 'x'"));
     assert!(found[2].starts_with("7:1 the loop a -> a (line 7) never resets clock 'y'"));
+}
+
+/// Beside other mistakes no loop is named that may not count once they are
+/// mended: 'test' opens by the limits, and each of these leaves one in doubt.
+#[test]
+fn loops_in_doubt() {
+    let plan = |mark: &str, idle: &str, test: &str| {
+        format!(
+            "{mark}\nclocks x y\nceiling 3\nlocation idle start {idle}\nlocation ring\n\
+             edge idle -> ring when {test}\nedge ring -> idle when x<=1 reset y\n"
+        )
+    };
+    let found = |mark, idle, test| mistakes(&plan(mark, idle, test)).join("\n");
+    let named = "(lines 6, 7) never resets clock 'x'";
+    assert!(found("mark 1", "stay x<=2", "x>=2").contains(named));
+    for (mark, idle, test) in [
+        ("mark 1", "stay x<=9", "x>=2"),
+        ("mark 1", "stay x<=1.5", "x>=2"),
+        ("mark 1", "stay w<=1", "x>=2"),
+        ("mark 1", "stay x>=1", "x>=2"),
+        ("mark 1", "stay x<=2, x<=1", "x>=2"),
+        ("mark 1", "stay x<=2\nlocation idle", "x>=2"),
+        ("mark 1", "sta x<=2", "x>=2"),
+        ("mark 1", "stay x<=2", "w>=2"),
+        ("mark 1", "stay x<=2", "x>=9"),
+        ("mark 1", "stay x<=2", "x>=2, x>=3"),
+        ("mark 1", "stay x<=2", "2<=x<=1"),
+        ("mark 3", "", "x>=2"),
+        ("mark two", "", "x>=2"),
+        ("mark 1\nmark 2", "", "x>=2"),
+    ] {
+        let found = found(mark, idle, test);
+        assert!(!found.contains("the loop"), "{found}");
+    }
+    // What is in doubt is no matter here: the loop opens whatever it is.
+    for (mark, idle, test) in [
+        ("mark 1", "stay x<=9", "x<=2"),
+        ("mark 1", "", "x>=9"),
+        ("mark 3", "stay x<=2", "x<=2"),
+    ] {
+        let found = found(mark, idle, test);
+        assert!(found.contains(named) && found.contains('\n'), "{found}");
+    }
+    // Nor is a ceiling that is not known: no low may be above it.
+    let text = plan("mark 2", "", "x>=1").replace("ceiling 3", "");
+    assert!(mistakes(&text).join("\n").contains(named));
 }
 
 /// Many ways to write the same.

@@ -96,7 +96,7 @@ fn which_number_of_a_model() {
     );
     assert_eq!(
         words(&[1, 1, 1, 1, 1, 0, 0, 0, 0, 0, 0, 0, 1]),
-        "7: clock 0 (x) is never reset on the loop of edge 0 (L0 -> L0)"
+        "7: clock 0 (x) is never reset on the loop of edge 0 (L0 -> L0), which can open"
     );
 }
 

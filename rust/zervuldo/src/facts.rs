@@ -139,9 +139,13 @@ pub enum Warning {
     /// With blank stay limits at the ceiling, as with mark 1, the proved verdict
     /// is unsafe.
     SafeByMark,
+    /// With them there, an edge opens that cannot now, and the plan is refused
+    /// for a loop that leaves a clock unreset.
+    AcceptedByMark,
     /// Drift never leads into this location, by the proved marks.
     NeverEntered { location: usize },
-    /// In no state that drift can reach does this edge open; not proved.
+    /// In no state that drift can reach does this edge open; not proved. Some
+    /// can never open, whatever is reached: the drawing says so.
     NeverOpens { edge: usize },
     /// Drift can reach this state, in which neither time nor a jump can go
     /// on; that nothing can is not proved.

@@ -100,8 +100,9 @@ impl Source {
             }),
         };
         let mut found = warnings(&accepted.plan, &marks);
-        if judgement.verdict == Verdict::Safe && self.turns_by_mark(library, &accepted.plan)? {
-            found.insert(0, Warning::SafeByMark);
+        if judgement.verdict == Verdict::Safe {
+            let by_mark = self.by_mark(library, &accepted.plan)?;
+            found.splice(0..0, by_mark);
         }
         Ok(Facts {
             title: self.title.clone(),
@@ -114,17 +115,22 @@ impl Source {
         })
     }
 
-    /// Whether a safe plan would be unsafe if blank stay limits were the ceiling.
-    fn turns_by_mark(&self, library: &mut Library, plan: &Plan) -> Result<bool, Failure> {
+    /// Whether a safe plan would be unsafe, or refused, if blank stay limits were
+    /// the ceiling.
+    fn by_mark(&self, library: &mut Library, plan: &Plan) -> Result<Option<Warning>, Failure> {
         if plan.mark == CEILING_MARK {
-            return Ok(false);
+            return Ok(None);
         }
         let plan = Plan {
             mark: CEILING_MARK,
             ..plan.clone()
         };
-        let judgement = self.proved(library.judge(&encode(&plan)))?;
-        Ok(judgement.verdict == Verdict::Unsafe)
+        let judgement = match library.judge(&encode(&plan)) {
+            Err(Refusal::ClockUnreset) => return Ok(Some(Warning::AcceptedByMark)),
+            answer => self.proved(answer)?,
+        };
+        let is_unsafe = judgement.verdict == Verdict::Unsafe;
+        Ok(is_unsafe.then_some(Warning::SafeByMark))
     }
 
     /// The answer of a call on a plan that the library accepted.

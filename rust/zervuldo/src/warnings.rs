@@ -3,14 +3,17 @@
 use crate::facts::Warning;
 use crate::library::entered;
 use plan::tell::region_words;
-use plan::Plan;
+use plan::{Edge, Plan};
 use second::graph::Graph;
 
 impl Warning {
     /// Whether the proved marks say so; else code that is not proved does.
     pub fn is_proved(&self) -> bool {
         match self {
-            Warning::NothingForbidden | Warning::SafeByMark | Warning::NeverEntered { .. } => true,
+            Warning::NothingForbidden
+            | Warning::SafeByMark
+            | Warning::AcceptedByMark
+            | Warning::NeverEntered { .. } => true,
             Warning::NeverOpens { .. } | Warning::Stuck { .. } => false,
         }
     }
@@ -24,10 +27,17 @@ impl Warning {
             Warning::SafeByMark => "the plan is safe by its mark: with mark 1, where a blank stay \
                                     limit is the ceiling, it is unsafe"
                 .to_string(),
+            Warning::AcceptedByMark => {
+                "the plan is accepted by its mark: with mark 1, where a blank stay limit is the \
+                 ceiling, a loop of edges leaves a clock unreset, and it is refused"
+                    .to_string()
+            }
             Warning::NeverEntered { location } => {
                 format!("{} is never entered", plan.quoted(*location))
             }
-            Warning::NeverOpens { edge } => format!("{} never opens", plan.edge_title(*edge)),
+            Warning::NeverOpens { edge } => plan
+                .shut_words(*edge)
+                .unwrap_or_else(|| format!("{} never opens", plan.edge_title(*edge))),
             Warning::Stuck { location, region } => format!(
                 "the plan can get stuck in {} at {}: no time can pass and no edge opens, so the \
                  plan says nothing of what the ring does then",
@@ -61,7 +71,8 @@ pub fn warnings(plan: &Plan, marks: &[u8]) -> Vec<Warning> {
 }
 
 /// Edges that open in no marked state, but for those into forbidden locations,
-/// which are meant not to.
+/// which are meant not to. One that can never open is named wherever it leads:
+/// without a way to what is forbidden, 'safe' says little.
 fn never_opening(plan: &Plan, graph: &Graph, marks: &[u8]) -> Vec<Warning> {
     let mut opens = vec![false; plan.edges.len()];
     for state in marked(marks) {
@@ -71,8 +82,8 @@ fn never_opening(plan: &Plan, graph: &Graph, marks: &[u8]) -> Vec<Warning> {
             }
         }
     }
-    let closed = (0..plan.edges.len())
-        .filter(|&edge| !opens[edge] && !plan.locations[plan.edges[edge].to].forbidden);
+    let is_meant = |edge: &Edge| plan.locations[edge.to].forbidden && plan.opens_alone(edge);
+    let closed = (0..plan.edges.len()).filter(|&edge| !opens[edge] && !is_meant(&plan.edges[edge]));
     closed.map(|edge| Warning::NeverOpens { edge }).collect()
 }
 

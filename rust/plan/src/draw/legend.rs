@@ -74,6 +74,7 @@ pub fn legend(plan: &Plan, marks: &Marks, story: &Story, width: f64) -> Vec<Entr
     let shown = [
         (true, &OF_ALL[..]),
         (plan.has_last_edge_limits(), &OF_LAST_EDGES),
+        (plan.has_shut_edges(), &OF_SHUT_EDGES),
         (!story.parts.is_empty(), &OF_TRAILS),
         (has_faces, &OF_FACES),
         (!story.loops.is_empty(), &OF_LOOPS),
@@ -106,6 +107,12 @@ const OF_ALL: [Sign; 2] = [
 const OF_LAST_EDGES: [Sign; 1] = [(
     None,
     "(last edge): no limit is written, and with mark 2 that means until the last edge closes",
+    FAINT,
+)];
+
+const OF_SHUT_EDGES: [Sign; 1] = [(
+    Some(Stroke::Shut),
+    "never opens: the edge needs a clock above a stay limit, where it leaves or where it leads",
     FAINT,
 )];
 

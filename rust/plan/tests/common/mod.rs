@@ -9,7 +9,7 @@ use second::program::OUTPUT;
 pub const ENOUGH: [usize; 4] = [MAX_STATES; 4];
 
 /// The example plans with a text of their own.
-pub const EXAMPLES: [&str; 8] = [
+pub const EXAMPLES: [&str; 9] = [
     "loop",
     "tiny",
     "largest",
@@ -18,6 +18,7 @@ pub const EXAMPLES: [&str; 8] = [
     "poll-blank",
     "two-repeaters",
     "hasty",
+    "test-link",
 ];
 
 /// A file of the folder plans/.
