@@ -12,7 +12,7 @@ use Rattle.stay_limits.proofs.Exits.{LastExit, exit-last, exit-same}
 use Rattle.model.specs.declared.Model.{Model}
 use Rattle.parser.specs.declared.Reading.{Reading}
 use Rattle.model.specs.Model.{sourceOf, highAt}
-use Rattle.parser.specs.Parse.{defaultAt}
+use Rattle.stay_fields.specs.Resolve.{defaultAt}
 use Rattle.canonical.specs.Blank.{Blank, ceiling, none, greatest}
 
 -- the ceiling and the edges alone decide

@@ -5,7 +5,8 @@ use mathlib.Core.List.{List, [], _∷_}
 use Rattle.number.specs.Number.{readNumber, spell, spellAll}
 use Rattle.stay_limits.specs.Stay.{lastExit}
 use Rattle.model.specs.Each.{each, gather}
-use Rattle.parser.specs.Parse.{fieldAt, kindAt, invariantAt, endsAt, guardAt, resolved, parseBody, parseCounts, parseModel}
+use Rattle.stay_fields.specs.Resolve.{resolved}
+use Rattle.parser.specs.Parse.{fieldAt, kindAt, invariantAt, endsAt, guardAt, parseBody, parseCounts, parseModel}
 use Rattle.edge_walks.specs.Opening.{opensAlone}
 use Rattle.edge_walks.specs.Cycle.{markEdge, roundOf, survivors, hasCycle, unreset}
 use Rattle.plan_reader.specs.Accept.{readModel}

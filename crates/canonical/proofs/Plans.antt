@@ -15,7 +15,8 @@ use Rattle.model.specs.declared.Model.{Model}
 use Rattle.parser.specs.declared.Reading.{Reading}
 use Rattle.model.specs.Each.{gather}
 use Rattle.model.specs.Model.{slot, sourceOf, targetOf, limitAt, lowAt, highAt, Lawful}
-use Rattle.parser.specs.Parse.{limitOf, parseModel}
+use Rattle.stay_fields.specs.Resolve.{limitOf}
+use Rattle.parser.specs.Parse.{parseModel}
 use Rattle.limits.specs.Limits.{KnownMark}
 use Rattle.edge_walks.specs.Cycle.{LeavesUnreset, unreset}
 use Rattle.plan_reader.specs.Accept.{judged, readModel, Whole}

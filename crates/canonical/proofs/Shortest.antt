@@ -18,7 +18,7 @@ use Rattle.model.specs.declared.Model.{Model}
 use Rattle.parser.specs.declared.Reading.{Reading}
 use Rattle.model.specs.Each.{gather}
 use Rattle.model.specs.Model.{slot, limitAt, Lawful}
-use Rattle.parser.specs.Parse.{defaultAt}
+use Rattle.stay_fields.specs.Resolve.{defaultAt}
 use Rattle.plan_reader.specs.Accept.{readModel, Whole}
 use Rattle.parser.specs.Longest.{maxModelBytes}
 use Rattle.canonical.specs.Canonical.{headerNumbers, locationNumbers, guardNumbers, edgeNumbers, numbersOf, Stays, blank, written, SpellsPlan, stayNumbers, planNumbers, shortestPlan}

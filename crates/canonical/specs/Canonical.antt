@@ -11,7 +11,7 @@ use Rattle.parser.specs.declared.Reading.{Reading}
 use Rattle.model.specs.Each.{gather}
 use Rattle.limits.specs.Limits.{KnownMark}
 use Rattle.model.specs.Model.{sourceOf, targetOf, limitAt, lowAt, highAt, Lawful, Tidy}
-use Rattle.parser.specs.Parse.{defaultAt}
+use Rattle.stay_fields.specs.Resolve.{defaultAt}
 use Rattle.canonical.specs.Blank.{Blank}
 
 -- ---- the numbers, with a choice of those that stand for each stay limit

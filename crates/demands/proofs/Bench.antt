@@ -21,7 +21,8 @@ use Rattle.theory.specs.Replay.{movesAlong, ourMoves}
 use Rattle.number.specs.Number.{readNumber, spell, spellAll}
 use Rattle.number.specs.Shortest.{readSpelled}
 use Rattle.model.specs.Each.{each}
-use Rattle.parser.specs.Parse.{fieldAt, kindAt, invariantAt, endsAt, guardAt, resolved, parseBody, parseCounts, parseModel}
+use Rattle.stay_fields.specs.Resolve.{resolved}
+use Rattle.parser.specs.Parse.{fieldAt, kindAt, invariantAt, endsAt, guardAt, parseBody, parseCounts, parseModel}
 use Rattle.edge_walks.specs.Opening.{opensAlone}
 use Rattle.edge_walks.specs.Cycle.{markEdge, roundOf, survivors, hasCycle, unreset}
 use Rattle.plan_reader.specs.Accept.{readModel}
@@ -38,8 +39,9 @@ use Rattle.number.specs.Answer.{answer}
 use Rattle.call.specs.Call.{enough, refusal}
 use Rattle.op_check.specs.Check.{evidenceAnswer, checkAnswer}
 use Rattle.op_soonest.specs.Sounding.{unreached, soonestRefusal, soonestAnswer}
-use Rattle.demands.specs.Bench.{samePoints, holds, bench, paddedBench, roundsBench, soonestBench}
+use Rattle.demands.specs.Bench.{samePoints, holds, bench, paddedBench, roundsBench, soonestBench, openingBench}
 
 pub bench-holds : (every holds bench ≡ true) × (every holds paddedBench ≡ true) × (every holds roundsBench ≡ true) × (every holds soonestBench ≡ true)
-unfolding holds bench paddedBench roundsBench soonestBench soonestAnswer soonestRefusal unreached timeTo soonest later leads rounds mark distanceTo count samePoints same regions lawful fits attains corners hasCorner face shares allowed guardHolds regionCount locationOf regionOf sameRegion indexIn numberOf allowedState stateAt timeFrom jumpFrom stepFrom beside flowTest systemOf labelledOf tab any all least top exact within dist greedy reach onClosedWalk step marks unsafe under chain height keeps number ourSheet trailSteps trailStates opens movesAlong ourMoves readEvidence readSpelled readNumber spell spellAll each fieldAt kindAt invariantAt endsAt guardAt resolved parseBody parseCounts parseModel markEdge roundOf survivors hasCycle opensAlone unreset readModel automatonOf numberKeeps numbersFrom sheetRefusal movesNumbers trailNumbers run flowTo labelAt walkStep closedWalk numbersAt faceTo touchTo trailStep trailAnswer ofKind checked ourSheetNumbers ourTrailNumbers ourEvidence answer enough refusal evidenceAnswer checkAnswer
-bench-holds = (refl, refl, refl, refl)
+    × (every holds openingBench ≡ true)
+unfolding holds bench paddedBench roundsBench soonestBench openingBench soonestAnswer soonestRefusal unreached timeTo soonest later leads rounds mark distanceTo count samePoints same regions lawful fits attains corners hasCorner face shares allowed guardHolds regionCount locationOf regionOf sameRegion indexIn numberOf allowedState stateAt timeFrom jumpFrom stepFrom beside flowTest systemOf labelledOf tab any all least top exact within dist greedy reach onClosedWalk step marks unsafe under chain height keeps number ourSheet trailSteps trailStates opens movesAlong ourMoves readEvidence readSpelled readNumber spell spellAll each fieldAt kindAt invariantAt endsAt guardAt resolved parseBody parseCounts parseModel markEdge roundOf survivors hasCycle opensAlone unreset readModel automatonOf numberKeeps numbersFrom sheetRefusal movesNumbers trailNumbers run flowTo labelAt walkStep closedWalk numbersAt faceTo touchTo trailStep trailAnswer ofKind checked ourSheetNumbers ourTrailNumbers ourEvidence answer enough refusal evidenceAnswer checkAnswer
+bench-holds = (refl, refl, refl, refl, refl)

@@ -30,3 +30,5 @@ pub mod Narrower
 pub mod Rounds
 -- Request (e) of 02: soonest sounding.
 pub mod Soonest
+-- Request (f) of 02: edges that never open.
+pub mod Opening

@@ -21,9 +21,11 @@ use Rattle.theory.specs.StateGraph.{regionCount}
 use Rattle.theory.specs.RegionGraph.{Allowed, Enabled, Flow, FlowWalk, Step, Marked}
 use Rattle.model.specs.declared.Model.{Model}
 use Rattle.parser.specs.declared.Reading.{Reading}
-use Rattle.model.specs.Model.{slot}
-use Rattle.parser.specs.Parse.{defaultAt, limitOf, parseModel}
-use Rattle.edge_walks.specs.Cycle.{DrawingWalk, LeavesUnreset}
+use Rattle.model.specs.Model.{slot, sourceOf, targetOf}
+use Rattle.stay_fields.specs.Resolve.{defaultAt, limitOf}
+use Rattle.parser.specs.Parse.{parseModel}
+use Rattle.edge_walks.specs.Opening.{OpensAlone}
+use Rattle.edge_walks.specs.Cycle.{DrawingWalk, here, step, Counts, LeavesUnreset}
 use Rattle.plan_reader.specs.Accept.{readModel}
 use Rattle.parser.proofs.Drafts.{Draft, InRange, Drafted, draftNumbers, drawn, readOf, read-draft, draft-read}
 use Rattle.parser.proofs.Finals.{final, resolved-draft, default-most, final-limit, final-lawful, final-tidy}
@@ -133,12 +135,20 @@ module _ (d : Draft) (g : InRange d) (one : d .mark ≡ 1) where
   draft-narrower =
       marked-wider _ (entriesAt (d .clocks) (final d .invariant)) (λ l xs. tab-fits (d .clocks) _ _ (entry-narrower l))
 
-  walk-same : {pass : ℕ → Bool} {k v u : ℕ} → DrawingWalk (final (inMark2 d)) pass k v u → DrawingWalk (final d) pass k v u
-  walk-same DrawingWalk.here = DrawingWalk.here
-  walk-same (DrawingWalk.step e h s p w) = DrawingWalk.step e h s p (walk-same w)
+  -- an edge that can open alone within tighter limits can within these
+  opens-wider : (e : ℕ) → OpensAlone (final (inMark2 d)) e → OpensAlone (final d) e
+  opens-wider e o =
+      record {
+        leaves = λ x h. omega (arith, o .leaves x h, entry-narrower (sourceOf (final d) e) x h);
+        enters = λ x h k. omega (arith, o .enters x h k, entry-narrower (targetOf (final d) e) x h);
+      }
 
-  unreset-same : LeavesUnreset (final (inMark2 d)) → LeavesUnreset (final d)
-  unreset-same (x, h, (k, v, w)) = (x, h, (k, v, walk-same w))
+  drawn-wider : {x k v u : ℕ} → DrawingWalk (final (inMark2 d)) (Counts (final (inMark2 d)) x) k v u → DrawingWalk (final d) (Counts (final d) x) k v u
+  drawn-wider here = here
+  drawn-wider (step e h s (k, o) w) = step e h s (k, opens-wider e o) (drawn-wider w)
+
+  unreset-wider : LeavesUnreset (final (inMark2 d)) → LeavesUnreset (final d)
+  unreset-wider (x, h, (k, v, w)) = (x, h, (k, v, drawn-wider w))
 
   states-same : states (final (inMark2 d)) ≡ states (final d)
   unfolding automatonOf regionCount
@@ -190,7 +200,7 @@ module _ (bytes bytes′ ns : List ℕ) (spelt : SpellsAll bytes (1 ∷ ns)) (sp
         ap (λ (r : Reading). r .refusal) parsed′,
         λ u. accepted-law bytes .0 e .1
             (subst LeavesUnreset (sym (sym (ap (λ (r : Reading). r .model) (accepted-parse bytes e)) ∙ model-is))
-            (unreset-same d (read .range) one (subst LeavesUnreset parsed-model′ u))),
+            (unreset-wider d (read .range) one (subst LeavesUnreset parsed-model′ u))),
       )
 
   model-is′ : readModel bytes′ .model ≡ final (inMark2 d)

@@ -17,7 +17,8 @@ use Rattle.theory.specs.Sheet.{keeps}
 use Rattle.number.specs.Number.{readNumber, spell}
 use Rattle.number.specs.Shortest.{readSpelled}
 use Rattle.model.specs.Each.{each}
-use Rattle.parser.specs.Parse.{fieldAt, kindAt, invariantAt, endsAt, guardAt, resolved, parseBody, parseCounts, parseModel}
+use Rattle.stay_fields.specs.Resolve.{resolved}
+use Rattle.parser.specs.Parse.{fieldAt, kindAt, invariantAt, endsAt, guardAt, parseBody, parseCounts, parseModel}
 use Rattle.edge_walks.specs.Opening.{opensAlone}
 use Rattle.edge_walks.specs.Cycle.{markEdge, roundOf, survivors, hasCycle, unreset}
 use Rattle.plan_reader.specs.Accept.{readModel}

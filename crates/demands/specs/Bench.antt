@@ -167,3 +167,32 @@ soonestBench =
     -- the least time, not the fewest jumps
     ∷ soonest-gives detour 3 0 (0 ∷ [])
     ∷ []
+
+-- one location with stay limit 1, and a link back to it that resets nothing and wants the clock at its low end or above
+abbrev pub link : ℕ → List ℕ
+link low = 1 ∷ 1 ∷ 2 ∷ 1 ∷ 1 ∷ 0 ∷ 0 ∷ 2 ∷ 0 ∷ 0 ∷ 0 ∷ low ∷ 2 ∷ []
+
+-- the loop plan with such a link at location 3, where clock 0 has stay limit 1: it wants 2
+abbrev pub linkedLoop : List ℕ
+linkedLoop =
+    1 ∷ 2 ∷ 2 ∷ 4 ∷ 5 ∷ 0
+    ∷ 0 ∷ 0 ∷ 0
+    ∷ 0 ∷ 0 ∷ 0
+    ∷ 0 ∷ 0 ∷ 0
+    ∷ 1 ∷ 2 ∷ 0
+    ∷ 0 ∷ 1 ∷ 2 ∷ 1 ∷ 1 ∷ 1 ∷ 1
+    ∷ 1 ∷ 2 ∷ 1 ∷ 0 ∷ 2 ∷ 0 ∷ 2
+    ∷ 2 ∷ 1 ∷ 2 ∷ 0 ∷ 2 ∷ 2 ∷ 2
+    ∷ 2 ∷ 3 ∷ 0 ∷ 0 ∷ 0 ∷ 2 ∷ 2
+    ∷ 3 ∷ 3 ∷ 0 ∷ 2 ∷ 2 ∷ 0 ∷ 2 ∷ []
+
+-- 02 (f): "Models refused only for walks that no longer count are judged now, and the evidence wish holds for them too."
+unfoldable pub openingBench : List Case
+openingBench =
+    -- the low end just beyond the stay limit, and just within it
+    ours-is (link 2) (1 ∷ 5 ∷ 3 ∷ 1 ∷ 0 ∷ 0 ∷ [])
+    ∷ check-gives (link 2) (1 ∷ 5 ∷ 3 ∷ 1 ∷ 0 ∷ 0 ∷ []) 0 (1 ∷ [])
+    ∷ check-gives (link 1) (1 ∷ 5 ∷ 3 ∷ 1 ∷ 0 ∷ 0 ∷ []) 7 []
+    -- the loop plan's trail passes as without the link
+    ∷ check-gives linkedLoop loopTrail 0 (2 ∷ [])
+    ∷ []

@@ -16,3 +16,5 @@ pub mod Marks
 pub mod Rounds
 -- Request (e) of 02: the answers of the least time.
 pub mod Soonest
+-- Request (f) of 02: the walks that 01 tested.
+pub mod Opening

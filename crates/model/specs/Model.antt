@@ -4,7 +4,7 @@ use mathlib.Core.Path.{_≡_}
 use mathlib.Core.Logic.{_⊎_}
 use mathlib.Core.List.{List}
 use mathlib.Core.Bool.{Bool}
-use lib.ListN.{length, getD}
+use lib.ListN.{length, getD, set}
 use lib.Dec.{eqb}
 use Rattle.model.specs.declared.Model.{Model}
 use Rattle.limits.specs.Limits.{maxClocks, maxCeiling, maxLocations, maxEdges}
@@ -88,3 +88,26 @@ pub record Tidy (m : Model) : Type 0 where
   pub reset : ZeroFrom (m .edges) (m .reset)
   pub lower : ZeroOutside (m .edges) (m .clocks) (m .lower)
   pub upper : ZeroOutside (m .edges) (m .clocks) (m .upper)
+
+-- ---- a model with other arrays
+
+-- the same five numbers
+abbrev pub withArrays : Model → List ℕ → List ℕ → List ℕ → List ℕ → List ℕ → List ℕ → List ℕ → Model
+withArrays m kind invariant source target reset lower upper =
+    record {
+      clocks = m .clocks;
+      ceiling = m .ceiling;
+      locations = m .locations;
+      edges = m .edges;
+      start = m .start;
+      kind = kind;
+      invariant = invariant;
+      source = source;
+      target = target;
+      reset = reset;
+      lower = lower;
+      upper = upper;
+    }
+
+abbrev pub withInvariant : Model → ℕ → ℕ → Model
+withInvariant m i v = withArrays m (m .kind) (set (m .invariant) i v) (m .source) (m .target) (m .reset) (m .lower) (m .upper)

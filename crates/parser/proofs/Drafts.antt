@@ -15,8 +15,9 @@ use Rattle.parser.specs.declared.Field.{Field}
 use Rattle.parser.specs.declared.State.{State}
 use Rattle.limits.specs.Limits.{maxClocks, maxCeiling, maxLocations, maxEdges, newestMark, KnownMark}
 use Rattle.model.specs.Each.{each, gather}
-use Rattle.model.specs.Model.{slot}
-use Rattle.parser.specs.Parse.{fieldAt, onField, going, blank, refused, resolved, finish, withArrays, withKind, withInvariant, withEnds, withGuard, parseLocation, parseEdge, parseBody, parseCounts, parseModel}
+use Rattle.model.specs.Model.{slot, withArrays, withInvariant}
+use Rattle.stay_fields.specs.Resolve.{resolved}
+use Rattle.parser.specs.Parse.{fieldAt, onField, going, blank, refused, finish, withKind, withEnds, withGuard, parseLocation, parseEdge, parseBody, parseCounts, parseModel}
 use Rattle.parser.proofs.Fields.{field-is, taken}
 use Rattle.parser.proofs.Arrays.{row, line, grid}
 use Rattle.parser.proofs.Readers.{Ends, Guard, body-reader}

@@ -11,8 +11,8 @@ use Rattle.model.specs.declared.Model.{Model}
 use Rattle.limits.specs.Limits.{maxClocks, maxLocations, maxEdges}
 use Rattle.stay_limits.specs.Stay.{resolve}
 use Rattle.stay_limits.proofs.Exits.{exit-most}
-use Rattle.model.specs.Model.{slot, sourceOf, highAt, Lawful, Tidy}
-use Rattle.parser.specs.Parse.{defaultAt, limitOf, meantAt, resolved, withArrays}
+use Rattle.model.specs.Model.{slot, sourceOf, highAt, Lawful, Tidy, withArrays}
+use Rattle.stay_fields.specs.Resolve.{defaultAt, limitOf, meantAt, resolved}
 use Rattle.limits.proofs.Zeros.{zeros}
 use Rattle.parser.proofs.Arrays.{row-length, row-in, row-out, row-at, grid, grid-length, grid-in, grid-out, grid-at}
 use Rattle.parser.proofs.Drafts.{Draft, InRange, blankOf, drawn, put-limits}

@@ -11,8 +11,8 @@ use Rattle.number.proofs.Sequence.{Reads, none, more, reads-append, reads-split
 use Rattle.model.specs.declared.Model.{Model}
 use Rattle.parser.specs.declared.State.{State}
 use Rattle.model.specs.Each.{each, gather}
-use Rattle.model.specs.Model.{slot}
-use Rattle.parser.specs.Parse.{fieldAt, onField, unlessStopped, going, stopped, withKind, withInvariant, withEnds, withGuard, kindAt, invariantAt, endsAt, guardAt, parseLocation, parseEdge}
+use Rattle.model.specs.Model.{slot, withInvariant}
+use Rattle.parser.specs.Parse.{fieldAt, onField, unlessStopped, going, stopped, withKind, withEnds, withGuard, kindAt, invariantAt, endsAt, guardAt, parseLocation, parseEdge}
 use Rattle.parser.proofs.Fields.{field-is, Taken, taken}
 use Rattle.model.proofs.Gather.{gather-ext, each-ext}
 

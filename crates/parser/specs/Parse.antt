@@ -1,9 +1,9 @@
 -- The bytes of a model, judged number by number: "1, 2, then range, low and high when high is read; then 6".
 -- As in 01, n is the number of clocks, m the ceiling; l and e are the numbers of locations and edges, or the number of one of them.
-use Prim.Native.Nat.{ℕ, _+_, _*_, _-_, _^_, _≤_}
+use Prim.Native.Nat.{ℕ, _+_, _*_, _-_, _^_}
 use mathlib.Core.List.{List}
 use mathlib.Core.Bool.{cond, _&&_}
-use lib.ListN.{length, getD, set, replicate}
+use lib.ListN.{length, set, replicate}
 use lib.Dec.{ltb, leb, eqb}
 use Rattle.number.specs.declared.Number.{Number}
 use Rattle.number.specs.Number.{readNumber}
@@ -13,9 +13,9 @@ use Rattle.parser.specs.declared.Field.{Field}
 use Rattle.parser.specs.declared.Field.the-variants.{Value, Refused}
 use Rattle.parser.specs.declared.State.{State}
 use Rattle.limits.specs.Limits.{maxClocks, maxCeiling, maxLocations, maxEdges, newestMark}
-use Rattle.stay_limits.specs.Stay.{Highs, blankLimit}
 use Rattle.model.specs.Each.{each}
-use Rattle.model.specs.Model.{slot, sourceOf, highAt}
+use Rattle.model.specs.Model.{slot, withArrays, withInvariant}
+use Rattle.stay_fields.specs.Resolve.{resolved}
 use Rattle.number.specs.declared.Number.the-variants as number
 
 -- ---- one number
@@ -58,29 +58,8 @@ blank n m l e s =
       upper = replicate (maxClocks * maxEdges) 0;
     }
 
--- its five numbers with other arrays
-abbrev pub withArrays : Model → List ℕ → List ℕ → List ℕ → List ℕ → List ℕ → List ℕ → List ℕ → Model
-withArrays m kind invariant source target reset lower upper =
-    record {
-      clocks = m .clocks;
-      ceiling = m .ceiling;
-      locations = m .locations;
-      edges = m .edges;
-      start = m .start;
-      kind = kind;
-      invariant = invariant;
-      source = source;
-      target = target;
-      reset = reset;
-      lower = lower;
-      upper = upper;
-    }
-
 abbrev pub withKind : Model → ℕ → ℕ → Model
 withKind m l v = withArrays m (set (m .kind) l v) (m .invariant) (m .source) (m .target) (m .reset) (m .lower) (m .upper)
-
-abbrev pub withInvariant : Model → ℕ → ℕ → Model
-withInvariant m i v = withArrays m (m .kind) (set (m .invariant) i v) (m .source) (m .target) (m .reset) (m .lower) (m .upper)
 
 abbrev pub withEnds : Model → ℕ → ℕ → ℕ → ℕ → Model
 withEnds m e f t r =
@@ -141,34 +120,6 @@ guardAt bs M e x s =
 
 abbrev pub parseEdge : List ℕ → ℕ → ℕ → ℕ → ℕ → State → State
 parseEdge bs n M l e s = each n (guardAt bs M e) (endsAt bs n l e s)
-
--- ---- stay limits
-
--- what a blank stands for, for a location and a clock: by the mark and the edges
-abbrev pub defaultAt : ℕ → Model → ℕ → ℕ → ℕ
-defaultAt mark m l x = blankLimit mark (m .ceiling) (sourceOf m) (λ e. highAt m e x) l (m .edges)
-
--- "0 means [that], any other s means limit s-1"
-abbrev pub limitOf : ℕ → Model → ℕ → ℕ → ℕ → ℕ
-limitOf mark m l x s = cond (eqb s 0) (defaultAt mark m l x) (s - 1)
-
--- the limit that the field of a model means, where the fields stand as spelt
-abbrev pub meantAt : ℕ → Model → ℕ → ℕ → ℕ
-meantAt mark m l x = limitOf mark m l x (getD (m .invariant) (slot l x) 0)
-
-abbrev pub resolvedAt : ℕ → Model → ℕ → Model → Model
-resolvedAt mark m l t = each (m .clocks) (λ x u. withInvariant u (slot l x) (meantAt mark m l x)) t
-
--- the model with limits for fields
-unfoldable pub resolved : ℕ → Model → Model
-resolved mark m = each (m .locations) (resolvedAt mark m) m
-
--- what that takes
-pub record Resolvable (m : Model) : Type 0 where
-  pub clocks : m .clocks ≤ maxClocks
-  pub locations : m .locations ≤ maxLocations
-  pub edges : m .edges ≤ maxEdges
-  pub highs : Highs (m .upper)
 
 -- ---- the whole
 

@@ -1,13 +1,12 @@
 // The bytes of a model, judged number by number.
-mod resolve;
-
 ghost use mathlib.Core.Path.{_≡_};
 ghost use Prim.Native.Nat.{_-_, _<_, _≤_, _^_};
 ghost use Rattle.limits.specs.Limits.{maxClocks, maxCeiling, maxLocations, maxEdges};
 ghost use Rattle.model.specs.Each.{each};
 ghost use Rattle.parser.specs.Parse.{fieldAt, fieldRefusal, blank, stopped};
 ghost use Rattle.parser.specs.Parse.{kindAt, invariantAt, parseLocation, endsAt, guardAt, parseEdge};
-ghost use Rattle.parser.specs.Parse.{Resolvable, refused, finish, parseBody, parseCounts, parseModel};
+ghost use Rattle.stay_fields.specs.Resolve.{Resolvable};
+ghost use Rattle.parser.specs.Parse.{refused, finish, parseBody, parseCounts, parseModel};
 use limits::MAX_CEILING;
 use limits::MAX_CLOCKS;
 use limits::MAX_EDGES;
@@ -19,7 +18,7 @@ use model::INVARIANT_SLOTS;
 use model::Model;
 use model::STRIDE;
 use number::Number;
-use resolve::resolve_model;
+use stay_fields::resolve_model;
 
 // Limits as bytes, the width of a field.
 const CLOCKS: u8 = MAX_CLOCKS as u8;

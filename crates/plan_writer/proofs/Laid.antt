@@ -18,7 +18,7 @@ use Rattle.limits.specs.Limits.{maxClocks, maxEdges}
 use Rattle.stay_limits.specs.Stay.{Highs}
 use Rattle.model.specs.declared.Model.{Model}
 use Rattle.parser.specs.declared.Reading.{Reading}
-use Rattle.parser.specs.Parse.{defaultAt}
+use Rattle.stay_fields.specs.Resolve.{defaultAt}
 use Rattle.model.specs.Each.{gather}
 use Rattle.model.specs.Model.{limitAt, Lawful}
 use Rattle.canonical.specs.Canonical.{numbersOf, planNumbers, shortestPlan, headerNumbers, stayNumbers, locationNumbers, edgeNumbers}

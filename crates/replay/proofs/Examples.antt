@@ -14,7 +14,8 @@ use Rattle.number.specs.Shortest.{readSpelled}
 use Rattle.evidence_number.specs.Evidence.{readEvidence}
 use Rattle.trail_numbers.specs.Numbers.{labelAt, numbersAt}
 use Rattle.model.specs.Each.{each}
-use Rattle.parser.specs.Parse.{fieldAt, kindAt, invariantAt, endsAt, guardAt, resolved, parseBody, parseCounts, parseModel}
+use Rattle.stay_fields.specs.Resolve.{resolved}
+use Rattle.parser.specs.Parse.{fieldAt, kindAt, invariantAt, endsAt, guardAt, parseBody, parseCounts, parseModel}
 use Rattle.graph.specs.Plan.{automatonOf}
 use Rattle.replay.specs.Trail.{run, flowTo, walkStep, closedWalk, faceTo, touchTo, trailStep, trailAnswer}
 

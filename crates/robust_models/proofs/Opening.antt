@@ -81,13 +81,13 @@ module _ (m : Model) (e : ℕ) where
   unfolding automatonOf
   model-opens = (
     λ o. record {
-          leaves = each-tab (m .clocks) (lowAt m e) (limitAt m (sourceOf m e)) (o .leaves);
-          enters = rw reset-tab (each-tab (m .clocks) _ (limitAt m (targetOf m e)) (λ x h. enters-law x h .0 (o .enters x h)));
-        },
+      leaves = each-tab (m .clocks) (lowAt m e) (limitAt m (sourceOf m e)) (o .leaves);
+      enters = rw reset-tab (each-tab (m .clocks) _ (limitAt m (targetOf m e)) (λ x h. enters-law x h .0 (o .enters x h)));
+    },
     λ o. record {
-          leaves = tab-each (m .clocks) (lowAt m e) (limitAt m (sourceOf m e)) (o .leaves);
-          enters = λ x h. enters-law x h .1 (tab-each (m .clocks) _ (limitAt m (targetOf m e)) (rw reset-tab at (o .enters)) x h);
-        },
+      leaves = tab-each (m .clocks) (lowAt m e) (limitAt m (sourceOf m e)) (o .leaves);
+      enters = λ x h. enters-law x h .1 (tab-each (m .clocks) _ (limitAt m (targetOf m e)) (rw reset-tab at (o .enters)) x h);
+    },
   )
 
 -- ---- just these are ever taken

@@ -12,7 +12,8 @@ use Rattle.number.specs.Number.{readNumber, spell}
 use Rattle.number.specs.Shortest.{readSpelled}
 use Rattle.evidence_number.specs.Evidence.{readEvidence}
 use Rattle.model.specs.Each.{each}
-use Rattle.parser.specs.Parse.{fieldAt, kindAt, invariantAt, endsAt, guardAt, resolved, parseBody, parseCounts, parseModel}
+use Rattle.stay_fields.specs.Resolve.{resolved}
+use Rattle.parser.specs.Parse.{fieldAt, kindAt, invariantAt, endsAt, guardAt, parseBody, parseCounts, parseModel}
 use Rattle.graph.specs.Plan.{automatonOf}
 use Rattle.sheet_numbers.specs.Numbers.{numberKeeps, numbersFrom}
 use Rattle.sheet.specs.Answer.{sheetRefusal, sheetAnswer}

@@ -22,7 +22,7 @@ fn verdicts() {
     assert_eq!(lines("poll-mended"), "verdict safe\nstates 268\nin 41\n");
     assert_eq!(lines("two-repeaters"), "verdict safe\nstates 3532\nin 37\n");
     assert_eq!(lines("hasty"), "verdict unsafe\nstates 1172\nsteps 9\n");
-    assert_eq!(lines("test-link"), "verdict safe\nstates 201\nin 0\n");
+    assert_eq!(lines("test-link"), "verdict safe\nstates 201\nin 8\n");
     assert!(lines("largest").starts_with("verdict safe\nstates 15816\n"));
 }
 

@@ -153,10 +153,22 @@ fn warnings() {
     let told = joined(&printed(&["judge", &shut], GOOD));
     assert!(told.contains("warning 'b' is never entered "), "{told}");
     assert!(
-        told.contains("warning edge 0 'go' (a -> b) never opens (not proved)"),
+        told.contains(
+            "warning edge 0 'go' (a -> b) can never open: it needs x>=2, but 'a' may be stayed in \
+             while x<=1 (not proved)"
+        ),
         "{told}"
     );
     assert!(!told.contains("stuck"), "{told}");
+    // Alone it could open, but no run gets there in time.
+    let late = text.replace("stay x<=1\nlocation b", "\nlocation b");
+    let late = late.replace("a -> a when x=1", "a -> a when x<=1");
+    let late = late.replace("edge go: a -> b", "edge go: b -> a");
+    let told = joined(&printed(&["judge", &file("late.txt", late)], GOOD));
+    assert!(
+        told.contains("warning edge 0 'go' (b -> a) never opens (not proved)"),
+        "{told}"
+    );
 }
 
 /// What is told of a plan with mark 2.

@@ -8,7 +8,8 @@ use Rattle.model.specs.declared.Model.{Model}
 use Rattle.model.specs.Each.{each}
 use Rattle.parser.specs.declared.State.{State}
 use Rattle.limits.specs.Limits.{maxClocks, maxCeiling, maxLocations, maxEdges}
-use Rattle.parser.specs.Parse.{Resolvable, going, blank, parseLocation, parseEdge, parseBody}
+use Rattle.stay_fields.specs.Resolve.{Resolvable}
+use Rattle.parser.specs.Parse.{going, blank, parseLocation, parseEdge, parseBody}
 use Rattle.parser.proofs.Lawful.{body-ok}
 use Rattle.parser.proofs.parse_body.Statement.{statement}
 use Rattle.parser.proofs.parse_body.Tie as tie

@@ -23,7 +23,8 @@ pub const COMMAND: Command = Command {
     summary: "a plan as an SVG picture, with its verdict and a trail",
     details: "Without EVIDENCE the trail is ours; with it, that one, once the proved check \
               has passed it. A safe plan has no trail. With mark 2 a blank stay limit below \
-              the ceiling is shown, and told apart: (last edge).",
+              the ceiling is shown, and told apart: (last edge). An edge that can never open \
+              is dotted.",
     takes: Takes {
         operands: "PLAN [EVIDENCE]",
         count: 1..=2,

@@ -3,12 +3,12 @@ use native.Mathlib.Omega.{arith}
 use Prim.Native.Nat.{ℕ, _≤_, _-_}
 use mathlib.Core.Path.{_≡_, _∙_}
 use Rattle.model.specs.declared.Model.{Model}
-use Rattle.model.specs.Model.{slot}
-use Rattle.parser.specs.Parse.{withInvariant, meantAt}
+use Rattle.model.specs.Model.{slot, withInvariant}
+use Rattle.stay_fields.specs.Resolve.{meantAt}
 use Rattle.model.specs.Each.{each}
 use Rattle.model.proofs.Each.{each-none, each-more, each-done}
-use Rattle.parser.proofs.resolve.resolve_location.Statement.{statement}
-use Rattle.parser.proofs.resolve.resolve_location.Tie as tie
+use Rattle.stay_fields.proofs.resolve_location.Statement.{statement}
+use Rattle.stay_fields.proofs.resolve_location.Tie as tie
 
 abbrev turn : ℕ → Model → ℕ → ℕ → Model → Model
 turn mark m l x z = withInvariant z (slot l x) (meantAt mark m l x)

@@ -1,8 +1,8 @@
 -- The limit of a blank, or one less than the field.
 use borrow.Author.Needs.{needs}
 use borrow.Author.Tests.{eq-eqb, ne-eqb}
-use Rattle.parser.proofs.resolve.limit.Statement.{statement}
-use Rattle.parser.proofs.resolve.limit.Tie as tie
+use Rattle.stay_fields.proofs.limit.Statement.{statement}
+use Rattle.stay_fields.proofs.limit.Tie as tie
 
 pub limit-spec : {M : Type 1} → statement M
 limit-spec =

@@ -1,9 +1,9 @@
-// Stay limits, once all numbers of a model are read: what each stay field means.
+// What each stay field of a model means, once all its numbers are read.
 ghost use mathlib.Core.Path.{_≡_};
 ghost use Prim.Native.Nat.{_<_};
 ghost use Rattle.limits.specs.Limits.{maxClocks, maxLocations};
-ghost use Rattle.model.specs.Model.{slot};
-ghost use Rattle.parser.specs.Parse.{Resolvable, withInvariant, meantAt, resolvedAt, resolved};
+ghost use Rattle.model.specs.Model.{slot, withInvariant};
+ghost use Rattle.stay_fields.specs.Resolve.{Resolvable, meantAt, resolvedAt, resolved};
 use model::Model;
 use model::STRIDE;
 use stay_limits::blank_limit;

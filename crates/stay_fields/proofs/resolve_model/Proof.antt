@@ -2,11 +2,11 @@
 use native.Mathlib.Omega.{arith}
 use Prim.Native.Nat.{_≤_, _-_}
 use mathlib.Core.Path.{_≡_, _∙_}
-use Rattle.parser.specs.Parse.{resolvedAt, resolved}
+use Rattle.stay_fields.specs.Resolve.{resolvedAt, resolved}
 use Rattle.model.specs.Each.{each}
 use Rattle.model.proofs.Each.{each-none, each-more, each-done}
-use Rattle.parser.proofs.resolve.resolve_model.Statement.{statement}
-use Rattle.parser.proofs.resolve.resolve_model.Tie as tie
+use Rattle.stay_fields.proofs.resolve_model.Statement.{statement}
+use Rattle.stay_fields.proofs.resolve_model.Tie as tie
 
 abbrev Inv-loop : tie.InvT-loop
 Inv-loop mark m count t₀ l₀ t l = (l ≤ count) × (t ≡ each l (resolvedAt mark m) t₀)

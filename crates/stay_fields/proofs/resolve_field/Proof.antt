@@ -1,7 +1,7 @@
 -- The limit of the field is stored in its place.
 use borrow.Author.Needs.{needs}
-use Rattle.parser.proofs.resolve.resolve_field.Statement.{statement}
-use Rattle.parser.proofs.resolve.resolve_field.Tie as tie
+use Rattle.stay_fields.proofs.resolve_field.Statement.{statement}
+use Rattle.stay_fields.proofs.resolve_field.Tie as tie
 
 pub resolve-field-spec : {M : Type 1} → statement M
 resolve-field-spec =

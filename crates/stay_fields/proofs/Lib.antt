@@ -1,0 +1,1 @@
+-- Nothing beside the proofs of its functions.

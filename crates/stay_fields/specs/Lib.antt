@@ -1,0 +1,2 @@
+-- What a stay field means.
+pub mod Resolve
