@@ -52,7 +52,7 @@ enum drift_number {
     DRIFT_BAD_LOCATION = 4,        /* location number out of range */
     DRIFT_BAD_EDGE = 5,            /* edge number out of range, or low above high */
     DRIFT_BYTES_REMAIN = 6,        /* bytes remain at the end */
-    DRIFT_CLOCK_UNRESET = 7,       /* a walk leaves a clock unreset */
+    DRIFT_CLOCK_UNRESET = 7,       /* a walk of edges that can open leaves a clock unreset */
     DRIFT_SCRATCH_TOO_SHORT = 8,   /* a scratch slice is shorter than S */
     DRIFT_OUTPUT_TOO_SHORT = 9,    /* output too short for the marks, evidence or plan */
     DRIFT_NO_EVIDENCE = 10,        /* evidence begins with neither 1 nor 2 */

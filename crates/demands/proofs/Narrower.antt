@@ -143,12 +143,12 @@ module _ (d : Draft) (g : InRange d) (one : d .mark ≡ 1) where
         enters = λ x h k. omega (arith, o .enters x h k, entry-narrower (targetOf (final d) e) x h);
       }
 
-  drawn-wider : {x k v u : ℕ} → DrawingWalk (final (inMark2 d)) (Counts (final (inMark2 d)) x) k v u → DrawingWalk (final d) (Counts (final d) x) k v u
-  drawn-wider here = here
-  drawn-wider (step e h s (k, o) w) = step e h s (k, opens-wider e o) (drawn-wider w)
+  drawn-wider : (x : ℕ) {k v u : ℕ} → DrawingWalk (final (inMark2 d)) (Counts (final (inMark2 d)) x) k v u → DrawingWalk (final d) (Counts (final d) x) k v u
+  drawn-wider x here = here
+  drawn-wider x (step e h s (k, o) w) = step e h s (k, opens-wider e o) (drawn-wider x w)
 
   unreset-wider : LeavesUnreset (final (inMark2 d)) → LeavesUnreset (final d)
-  unreset-wider (x, h, (k, v, w)) = (x, h, (k, v, drawn-wider w))
+  unreset-wider (x, h, (k, v, w)) = (x, h, (k, v, drawn-wider x w))
 
   states-same : states (final (inMark2 d)) ≡ states (final d)
   unfolding automatonOf regionCount

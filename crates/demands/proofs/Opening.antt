@@ -4,13 +4,14 @@ use mathlib.Core.Path.{_≡_, refl, sym, ap, subst, _∙_}
 use mathlib.Core.Bool.{Bool, true, false, cond, false≢true}
 use mathlib.Core.Logic.{_↔_, _⊎_, inl, inr}
 use mathlib.Core.List.{List, List·Memᴰ}
-use Prim.Native.Nat.{ℕ, suc, _*_, _≤_, _<_}
+use Prim.Native.Nat.{ℕ, suc, _*_, _<_}
 use native.Mathlib.Omega.{arith}
 use lib.Dec.{eqb}
-use borrow.Author.Tests.{eqb-true, eq-eqb, ne-eqb}
+use borrow.Author.Tests.{ne-eqb}
 use Rattle.theory.specs.Automaton.{Edge, Run}
 use Rattle.theory.proofs.Below.{either}
 use Rattle.model.specs.declared.Model.{Model}
+use Rattle.model.specs.Model.{targetOf}
 use Rattle.parser.specs.declared.Reading.{Reading}
 use Rattle.parser.specs.Parse.{parseModel}
 use Rattle.edge_walks.specs.Opening.{OpensAlone, opensAlone}
@@ -45,24 +46,25 @@ module _ (m : Model) (x : ℕ) where
   -- a walk that 01 tested has an edge that cannot open alone, or it counts
   sift : {k v u : ℕ} (w : DrawingWalk m (Keeps m x) k v u) → ((e : ℕ) × Has w e × (OpensAlone m e → ⊥)) ⊎ DrawingWalk m (Counts m x) k v u
   sift here = inr here
-  sift (step e h s k w) = by (either (opensAlone m e)) (sift w)
+  sift (step {k = n} {v = v} {u = u} e h s k w) = by (either (opensAlone m e)) (sift w)
     where
-      by : (opensAlone m e ≡ true) ⊎ (opensAlone m e ≡ false) → ((i : ℕ) × Has w i × (OpensAlone m i → ⊥)) ⊎ DrawingWalk m (Counts m x) _ _ _
-          → ((i : ℕ) × Has (step e h s k w) i × (OpensAlone m i → ⊥)) ⊎ DrawingWalk m (Counts m x) _ _ _
+      by : (opensAlone m e ≡ true) ⊎ (opensAlone m e ≡ false)
+          → ((i : ℕ) × Has w i × (OpensAlone m i → ⊥)) ⊎ DrawingWalk m (Counts m x) n (targetOf m e) u
+          → ((i : ℕ) × ((i ≡ e) ⊎ Has w i) × (OpensAlone m i → ⊥)) ⊎ DrawingWalk m (Counts m x) (suc n) v u
       by (inr f) rest = inl (e, inl refl, λ o. false≢true (sym f ∙ opens-law m e .1 o))
       by (inl t) (inl (i, q, dead)) = inl (i, inr q, dead)
       by (inl t) (inr c) = inr (step e h s (k, opens-law m e .0 t) c)
 
 none-law : (m : Model) → (LeavesUnreset m → ⊥) ↔ NoneCounts m
 none-law m = (
-  λ none. record { idle = λ x h k v w. by x h k v (λ c. none (x, h, (k, v, c))) (sift m x w) },
+  λ none. record { idle = λ x h k v w. by x k v w (λ c. none (x, h, (k, v, c))) (sift m x w) },
   λ n (x, h, (k, v, w)). let (e, q, dead) = n .idle x h k v (before m x w) in dead (all-open m x w e q),
 )
   where
-    by : (x : ℕ) → x < m .clocks → (k v : ℕ) {w : DrawingWalk m (Keeps m x) (suc k) v v} → (DrawingWalk m (Counts m x) (suc k) v v → ⊥)
+    by : (x k v : ℕ) (w : DrawingWalk m (Keeps m x) (suc k) v v) → (DrawingWalk m (Counts m x) (suc k) v v → ⊥)
         → ((e : ℕ) × Has w e × (OpensAlone m e → ⊥)) ⊎ DrawingWalk m (Counts m x) (suc k) v v → (e : ℕ) × Has w e × (OpensAlone m e → ⊥)
-    by x h k v none (inl found) = found
-    by x h k v none (inr c) = absurd (none c)
+    by x k v w none (inl found) = found
+    by x k v w none (inr c) = absurd (none c)
 
 module _ (bytes : List ℕ) where
   -- ---- which bytes are refused by 7, and which are judged

@@ -3,7 +3,8 @@
 //! lengths and dirty contents. All memory is compared after each call, and
 //! what the library writes must pass its own check.
 //!
-//! Usage: compare COUNT SEED. The first difference is printed and saved.
+//! Usage: compare COUNT SEED [KIND]. The first difference is printed and saved.
+//! With a kind all models are of it.
 
 mod alike;
 mod memory;
@@ -42,16 +43,15 @@ struct Difference {
 }
 
 fn main() -> ExitCode {
-    let mut numbers = std::env::args().skip(1).map(|word| word.parse::<u64>());
-    let (Some(Ok(count)), Some(Ok(seed)), None) = (numbers.next(), numbers.next(), numbers.next())
-    else {
-        eprintln!("usage: compare COUNT SEED");
+    let words: Vec<String> = std::env::args().skip(1).collect();
+    let Some((count, seed, kind)) = asked(&words) else {
+        eprintln!("usage: compare COUNT SEED [KIND]");
         return ExitCode::from(2);
     };
     let mut tally = Tally::default();
     let mut others = Others::default();
     for case in 0..count {
-        let (kind, model) = model_of(seed, case);
+        let (kind, model) = model_of(seed, case, kind);
         let mut random = Random::with_word(seed ^ case, "lengths");
         if let Err(difference) = agree(&model, &mut random, &mut others, &mut tally) {
             println!("case {case}, kind {kind}, seed {seed}: {}", difference.what);
@@ -70,9 +70,21 @@ fn main() -> ExitCode {
     ExitCode::SUCCESS
 }
 
-fn model_of(seed: u64, case: u64) -> (&'static str, Vec<u8>) {
+/// The number of models, the seed, and their one kind if it is named.
+fn asked(words: &[String]) -> Option<(u64, u64, Option<&'static str>)> {
+    let (numbers, named) = words.split_at_checked(2)?;
+    let kind = match named {
+        [] => None,
+        [name] => Some(*KINDS.iter().find(|kind| *kind == name)?),
+        _ => return None,
+    };
+    Some((numbers[0].parse().ok()?, numbers[1].parse().ok()?, kind))
+}
+
+/// A model of the kind, or of the kind whose turn it is.
+fn model_of(seed: u64, case: u64, only: Option<&'static str>) -> (&'static str, Vec<u8>) {
     let at = case % KINDS.len() as u64;
-    let kind = KINDS[at as usize];
+    let kind = only.unwrap_or(KINDS[at as usize]);
     let seed = seed.wrapping_mul(1_000_003).wrapping_add(case);
     if kind == "largest" && case % LARGEST_EVERY != at {
         return ("long", long(&mut Random::with_word(seed, "long")));
@@ -103,9 +115,11 @@ fn agree(
     others: &mut Others,
     tally: &mut Tally,
 ) -> Result<(), Difference> {
-    let states = second::model::read_model(model)
-        .map(|model| second::calls::states_of(&model))
-        .unwrap_or(20);
+    let read = second::model::read_model(model);
+    if let Ok(model) = &read {
+        tally.edges(model);
+    }
+    let states = read.map_or(20, |model| second::calls::states_of(&model));
     answered(model, random, states, tally).map_err(about_model)?;
     soonest_all_alike(model, random, states, tally).map_err(about_model)?;
     plans_alike(model, random, tally).map_err(|what| about_model(format!("plan: {what}")))?;

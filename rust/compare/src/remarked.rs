@@ -1,4 +1,5 @@
-//! A plan in its other mark: only what a blank stay field means can change.
+//! A plan in its other mark: only what a blank stay field means can change, and
+//! with it which edges can open.
 
 use crate::alike::{check_alike, judge_alike, marks_alike, plan_alike, write_alike};
 use crate::memory::Lent;
@@ -7,6 +8,7 @@ use second::blanks::with_mark;
 use second::model::{read_plan, Reading, CEILING_MARK, EDGES_MARK};
 use second::program::OUTPUT;
 use second::random::Random;
+use second::Judgement;
 
 /// Both checkers judge, mark, write and shorten the plan with the other mark
 /// alike, and take evidence of the one for the other alike.
@@ -22,10 +24,8 @@ pub fn remarked_alike(
     let other = with_mark(model, CEILING_MARK + EDGES_MARK - mark).expect("an accepted plan");
     let verdicts = [model, &other].map(|plan| judge_alike(plan, &Lent::enough(random, states)));
     let [one, two] = verdicts;
-    tally.remarked(
-        mark,
-        one?.map(|judged| judged.is_unsafe) != two?.map(|judged| judged.is_unsafe),
-    );
+    let is_unsafe = |judged: Result<Judgement, u8>| judged.map(|judged| judged.is_unsafe);
+    tally.remarked(mark, is_unsafe(one?), is_unsafe(two?));
     marks_alike(&other, &Lent::near(random, states), states, random)?;
     tally.shortened(&other, &plan_alike(&other, other.len(), random)?);
     for (written, asked) in [(model, &other[..]), (&other[..], model)] {

@@ -1,5 +1,6 @@
 //! How often each answer came up.
 
+use second::model::Model;
 use second::refusal::{LAST, NEVER_THERE, OUTPUT_TOO_SHORT, SCRATCH_TOO_SHORT};
 use second::{Harm, Judgement, SheetMargin};
 use std::collections::BTreeMap;
@@ -83,11 +84,21 @@ struct Times {
     refused: u64,
 }
 
-/// Accepted plans of a mark, and how many get another verdict in the other.
+/// Accepted plans of a mark, and how many get another verdict in the other or
+/// are refused there.
 #[derive(Default)]
 struct Marked {
     count: u64,
     turned: u64,
+    refused: u64,
+}
+
+/// Accepted plans with edges that can never open, and how many of them
+/// document 01's test on all edges would refuse.
+#[derive(Default)]
+struct Shut {
+    count: u64,
+    judged_now: u64,
 }
 
 impl fmt::Display for Times {
@@ -108,6 +119,7 @@ pub struct Tally {
     unjudged: [u64; SCRATCH_TOO_SHORT as usize + 1],
     /// By the mark.
     marked: BTreeMap<u32, Marked>,
+    shut: Shut,
     plans: Plans,
     margins: Margins,
     harms: Harms,
@@ -132,10 +144,23 @@ impl Tally {
         }
     }
 
-    pub fn remarked(&mut self, mark: u32, is_turned: bool) {
+    /// By what is said of unsafe in the plan's own mark and in the other.
+    pub fn remarked(&mut self, mark: u32, own: Result<bool, u8>, other: Result<bool, u8>) {
         let marked = self.marked.entry(mark).or_default();
         marked.count += 1;
-        marked.turned += u64::from(is_turned);
+        marked.turned += u64::from(other.is_ok() && own != other);
+        marked.refused += u64::from(other.is_err());
+    }
+
+    /// An accepted model by its edges. With every low at 0 all of them can open.
+    pub fn edges(&mut self, model: &Model) {
+        if model.edges.iter().all(|edge| model.can_open(edge)) {
+            return;
+        }
+        let mut opened = model.clone();
+        opened.edges.iter_mut().for_each(|edge| edge.low.fill(0));
+        self.shut.count += 1;
+        self.shut.judged_now += u64::from(opened.leaves_a_clock_unreset());
     }
 
     pub fn shortened(&mut self, model: &[u8], answer: &Result<Vec<u8>, u8>) {
@@ -211,12 +236,18 @@ impl fmt::Display for Tally {
             f,
             "models: safe {safe}, unsafe {is_unsafe}, refused 1 to 8 {refused:?}"
         )?;
-        for (mark, Marked { count, turned }) in &self.marked {
+        for (mark, marked) in &self.marked {
             writeln!(
                 f,
-                "  of mark {mark}: {count}, of which the other mark turns the verdict of {turned}"
+                "  of mark {mark}: {}, of which the other mark turns the verdict of {} and refuses {}",
+                marked.count, marked.turned, marked.refused
             )?;
         }
+        writeln!(
+            f,
+            "  with edges that can never open: {}, of which a test on all edges would refuse {}",
+            self.shut.count, self.shut.judged_now
+        )?;
         writeln!(f, "plans in shortest form: {}", self.plans)?;
         let Margins { count, greatest } = &self.margins;
         writeln!(f, "margins: {count}, greatest {greatest}")?;

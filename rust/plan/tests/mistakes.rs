@@ -275,20 +275,23 @@ fn loops_without_a_reset() {
     assert!(found[2].starts_with("7:1 the loop a -> a (line 7) never resets clock 'y'"));
 }
 
+/// A ring of two edges without a reset of x.
+fn unreset(mark: &str, idle: &str, there: &str) -> String {
+    format!(
+        "{mark}\nclocks x y\nceiling 3\nlocation idle start {idle}\nlocation ring\n\
+         edge idle -> ring when {there}\nedge ring -> idle when x<=1 reset y\n"
+    )
+}
+
+const UNRESET: &str = "(lines 6, 7) never resets clock 'x'";
+
 /// Beside other mistakes no loop is named that may not count once they are
-/// mended: 'test' opens by the limits, and each of these leaves one in doubt.
+/// mended: each of these leaves a limit in doubt.
 #[test]
 fn loops_in_doubt() {
-    let plan = |mark: &str, idle: &str, test: &str| {
-        format!(
-            "{mark}\nclocks x y\nceiling 3\nlocation idle start {idle}\nlocation ring\n\
-             edge idle -> ring when {test}\nedge ring -> idle when x<=1 reset y\n"
-        )
-    };
-    let found = |mark, idle, test| mistakes(&plan(mark, idle, test)).join("\n");
-    let named = "(lines 6, 7) never resets clock 'x'";
-    assert!(found("mark 1", "stay x<=2", "x>=2").contains(named));
-    for (mark, idle, test) in [
+    let found = |mark, idle, there| mistakes(&unreset(mark, idle, there)).join("\n");
+    assert!(found("mark 1", "stay x<=2", "x>=2").contains(UNRESET));
+    for (mark, idle, there) in [
         ("mark 1", "stay x<=9", "x>=2"),
         ("mark 1", "stay x<=1.5", "x>=2"),
         ("mark 1", "stay w<=1", "x>=2"),
@@ -304,21 +307,29 @@ fn loops_in_doubt() {
         ("mark two", "", "x>=2"),
         ("mark 1\nmark 2", "", "x>=2"),
     ] {
-        let found = found(mark, idle, test);
+        let found = found(mark, idle, there);
         assert!(!found.contains("the loop"), "{found}");
     }
-    // What is in doubt is no matter here: the loop opens whatever it is.
-    for (mark, idle, test) in [
-        ("mark 1", "stay x<=9", "x<=2"),
-        ("mark 1", "", "x>=9"),
-        ("mark 3", "stay x<=2", "x<=2"),
+}
+
+/// The loop opens whatever is meant, so it is named beside the other mistake.
+#[test]
+fn loops_beyond_doubt() {
+    for text in [
+        unreset("mark 1", "stay x<=9", "x<=2"),
+        unreset("mark 1", "", "x>=9"),
+        unreset("mark 3", "stay x<=2", "x<=2"),
+        unreset("mark 1", "stay x<=2", "x>=2").replace(" start", ""),
+        // No low may be above a ceiling that is not known.
+        unreset("mark 2", "", "x>=1").replace("ceiling 3", ""),
     ] {
-        let found = found(mark, idle, test);
-        assert!(found.contains(named) && found.contains('\n'), "{found}");
+        let found = mistakes(&text);
+        assert_eq!(found.len(), 2, "{found:?}");
+        assert!(
+            found.iter().any(|words| words.contains(UNRESET)),
+            "{found:?}"
+        );
     }
-    // Nor is a ceiling that is not known: no low may be above it.
-    let text = plan("mark 2", "", "x>=1").replace("ceiling 3", "");
-    assert!(mistakes(&text).join("\n").contains(named));
 }
 
 /// Many ways to write the same.

@@ -20,7 +20,7 @@ pub fn blank_model(random: &mut Random) -> Draft {
         let shape = pick_shape(random, small).expect("a size that there is");
         let draft = early_draft(random, &shape, EDGES_MARK);
         let plan = draft.bytes();
-        let [one, two] = by_both_marks(&plan);
+        let [one, two] = by_both_marks(&plan).expect("drafts are accepted");
         if one != two && (!decides || is_safe_by_its_mark(&plan)) {
             return draft;
         }
@@ -28,12 +28,11 @@ pub fn blank_model(random: &mut Random) -> Draft {
     sure_blank(random)
 }
 
-/// What an accepted plan says with mark 1 and with mark 2.
-pub fn by_both_marks(plan: &[u8]) -> [Model; 2] {
-    [CEILING_MARK, EDGES_MARK].map(|mark| {
-        let plan = with_mark(plan, mark).expect("a plan spells numbers");
-        read_model(&plan).expect("neither mark is refused")
-    })
+/// What a plan says with mark 1 and with mark 2, if neither is refused: an edge
+/// that the limits of mark 2 keep shut may open with those of mark 1.
+pub fn by_both_marks(plan: &[u8]) -> Result<[Model; 2], Refusal> {
+    let read = |mark| read_model(&with_mark(plan, mark)?);
+    Ok([read(CEILING_MARK)?, read(EDGES_MARK)?])
 }
 
 /// The shortest spelling of the numbers of a plan with another mark.
@@ -46,7 +45,8 @@ pub fn with_mark(plan: &[u8], mark: u32) -> Result<Vec<u8>, Refusal> {
 /// Whether a plan is safe with mark 2 and unsafe with mark 1. With mark 2 no
 /// limit is greater, so that it is never the other way round.
 pub fn is_safe_by_its_mark(plan: &[u8]) -> bool {
-    by_both_marks(plan).map(|model| classify(&model) == Class::Safe) == [false, true]
+    let is_safe = |model: Model| classify(&model) == Class::Safe;
+    by_both_marks(plan).is_ok_and(|models| models.map(is_safe) == [false, true])
 }
 
 /// A forbidden location that is entered at the ceiling and left at 0.

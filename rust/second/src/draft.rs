@@ -1,9 +1,10 @@
 //! Models before they become bytes: sizes, random drawings, and variations of
 //! a loop that only drift can leave.
 
+use crate::dead_links::is_refused_by_all_edges;
 use crate::generate::Class;
 use crate::limits::{MAX_CEILING, MAX_CLOCKS, MAX_EDGES, MAX_LOCATIONS, NUMBER_BYTES};
-use crate::model::{read_model, CEILING_MARK, EDGES_MARK};
+use crate::model::{Model, CEILING_MARK, EDGES_MARK};
 use crate::numbers::{push_padded, shortest};
 use crate::random::Random;
 use crate::regions::Regions;
@@ -107,6 +108,13 @@ impl Draft {
         shortest(&self.numbers())
     }
 
+    /// The model with the limits that the stay fields mean, refused by 7 or not.
+    pub fn model(&self) -> Model {
+        let mut numbers = self.numbers().into_iter();
+        let read = Model::from_fields(&mut |_, _| numbers.next().ok_or(()));
+        read.expect("a number for each field")
+    }
+
     pub fn all_clocks(&self) -> u32 {
         (1 << self.clocks) - 1
     }
@@ -138,13 +146,14 @@ impl Draft {
     }
 
     /// Adds an edge, as far as the limit allows. One that would close a walk
-    /// with a clock unreset resets all clocks instead.
+    /// with a clock unreset resets all clocks instead, even if the walk does not
+    /// count: stay fields may be drawn afterwards.
     pub fn add_edge(&mut self, edge: DraftEdge) {
         if self.edges.len() == MAX_EDGES {
             return;
         }
         self.edges.push(edge);
-        if read_model(&self.bytes()).is_err() {
+        if is_refused_by_all_edges(&self.model()) {
             self.edges.last_mut().expect("just added").mask = self.all_clocks();
         }
     }
@@ -154,7 +163,7 @@ impl Draft {
     pub fn spelt_out_blanks(&self) -> Vec<Vec<u32>> {
         let mut blank = self.clone();
         blank.stays.iter_mut().flatten().for_each(|stay| *stay = 0);
-        let model = read_model(&blank.bytes()).expect("drafts are accepted");
+        let model = blank.model();
         let fields = |limit: &[u8]| limit.iter().map(|&limit| u32::from(limit) + 1).collect();
         let limits = model.locations.iter().map(|location| &location.limit);
         limits.map(|limit| fields(&limit[..self.clocks])).collect()

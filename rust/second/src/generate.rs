@@ -5,12 +5,14 @@
 //! edges close early. The mark is drawn for each. A model of a wanted class
 //! (safe, unsafe only by drift, unsafe with perfect clocks), judged by the
 //! limits that its mark gives, is found by drawing until the class fits, with a
-//! sure drawing at the end. Models in which time matters most are drawn in a way
-//! of their own, whatever their class.
+//! sure drawing at the end. To some of these, links are added that nobody can
+//! walk. Models in which time matters most are drawn in a way of their own,
+//! whatever their class.
 
 use crate::blanks::{blank_model, early_draft, is_safe_by_its_mark};
 use crate::calls::states_of;
 use crate::components::Components;
+use crate::dead_links::{dead_links_model, has_dead_edge, is_refused_by_all_edges};
 use crate::draft::{loop_draft, padded, pick_shape, random_draft, random_mark, Draft, Shape};
 use crate::graph::Graph;
 use crate::limits::{MAX_CEILING, MAX_CLOCKS, MAX_EDGES, MAX_LOCATIONS, MAX_STATES};
@@ -25,7 +27,7 @@ use std::collections::BTreeMap;
 use std::convert::Infallible;
 
 /// The kinds that `generate` knows.
-pub const KINDS: [&str; 23] = [
+pub const KINDS: [&str; 24] = [
     "safe",
     "drift",
     "plain",
@@ -49,6 +51,7 @@ pub const KINDS: [&str; 23] = [
     "refused-8",
     "noise",
     "slow",
+    "dead-links",
 ];
 
 /// What an accepted model is.
@@ -120,6 +123,7 @@ pub fn generate(seed: u64, kind: &str) -> Option<Vec<u8>> {
         "refused-8" => accepted(random, None, |shape| shape.states() > MIDDLE).bytes(),
         "noise" => noise(random),
         "slow" => slow_model(random)?.bytes(),
+        "dead-links" => dead_links_model(random).bytes(),
         _ => return None,
     })
 }
@@ -167,14 +171,7 @@ fn accepted(random: &mut Random, class: Option<Class>, wanted: impl Fn(&Shape) -
         }
     }
     for attempt in 0..TRIES {
-        let draft = if random.one_in(4) {
-            let mark = random_mark(random);
-            early_draft(random, &shape, mark)
-        } else if shape.has_room_for_drift() && (class == Class::Drift || random.one_in(2)) {
-            loop_draft(random, &shape, class, attempt < TRIES / 2)
-        } else {
-            random_draft(random, &shape)
-        };
+        let draft = drawing(random, &shape, class, attempt < TRIES / 2);
         let model = read_model(&draft.bytes()).expect("drafts are accepted");
         if classify(&model) == class {
             return draft;
@@ -188,6 +185,18 @@ fn accepted(random: &mut Random, class: Option<Class>, wanted: impl Fn(&Shape) -
             draft.kinds[0] = u32::from(class == Class::Plain);
             draft
         }
+    }
+}
+
+/// A drawing of one of the three families, which may be of the class.
+pub fn drawing(random: &mut Random, shape: &Shape, class: Class, noise: bool) -> Draft {
+    if random.one_in(4) {
+        let mark = random_mark(random);
+        early_draft(random, shape, mark)
+    } else if shape.has_room_for_drift() && (class == Class::Drift || random.one_in(2)) {
+        loop_draft(random, shape, class, noise)
+    } else {
+        random_draft(random, shape)
     }
 }
 
@@ -340,7 +349,8 @@ fn extended(random: &mut Random) -> Vec<u8> {
     bytes
 }
 
-/// Refusal 7: a closed walk of edges with a clock that none of them resets.
+/// Refusal 7: a closed walk of edges with a clock that none of them resets. They
+/// have no lows, so that each can open.
 fn unreset(random: &mut Random, shape: &Shape) -> Draft {
     let mut draft = random_draft(random, shape);
     let clock = random.below(shape.clocks);
@@ -385,6 +395,9 @@ enum Trait {
     Class(Class),
     Mark(u32),
     SafeByItsMark,
+    /// Some edge cannot open; such an edge alone keeps 7 away.
+    DeadEdge,
+    ByDeadEdges,
     Clocks(usize),
     /// Up to so many states.
     States(usize),
@@ -404,6 +417,12 @@ impl Trait {
         if reading.mark == EDGES_MARK && is_safe_by_its_mark(plan) {
             all.push(Trait::SafeByItsMark);
         }
+        if has_dead_edge(&reading.model) {
+            all.push(Trait::DeadEdge);
+        }
+        if is_refused_by_all_edges(&reading.model) {
+            all.push(Trait::ByDeadEdges);
+        }
         all
     }
 
@@ -412,6 +431,8 @@ impl Trait {
             Trait::Class(class) => class.word().to_string(),
             Trait::Mark(mark) => format!("mark {mark}"),
             Trait::SafeByItsMark => "mark 2, safe where mark 1 is unsafe".to_string(),
+            Trait::DeadEdge => "with an edge that cannot open".to_string(),
+            Trait::ByDeadEdges => "refused 7 if every edge could open".to_string(),
             Trait::Clocks(clocks) => format!("clocks {clocks}"),
             Trait::States(size) => format!("states up to {size}"),
         }

@@ -7,11 +7,13 @@
 //! evidence is padded, is in `numbers` and `check`; request (c), what a blank
 //! stay field means in mark 2, is in `model` and `shortest_plan`; request (d),
 //! the rounds of the marking, is in `marking`; request (e), the least time to a
-//! location, is `soonest`. Beyond both documents, `margin` and `harm` tell how
-//! slight a drift is harmless and how soon another does harm.
+//! location, is `soonest`; request (f), that closed walks count only if their
+//! edges can open, is in `model`. Beyond both documents, `margin` and `harm` tell
+//! how slight a drift is harmless and how soon another does harm.
 //! `brute` does everything again by naive definitions, `widened` searches runs
-//! without regions; `generate`, `blanks`, `mutate`, `padding` and `other` make
-//! inputs for comparisons, `cases` those of a proved program with their answers.
+//! without regions; `generate`, `blanks`, `dead_links`, `mutate`, `padding` and
+//! `other` make inputs for comparisons, `cases` those of a proved program with
+//! their answers.
 
 // Loops over clocks and states index several lists at once.
 #![allow(clippy::needless_range_loop)]
@@ -23,6 +25,7 @@ pub mod calls;
 pub mod cases;
 pub mod check;
 pub mod components;
+pub mod dead_links;
 pub mod draft;
 pub mod generate;
 pub mod graph;

@@ -1,6 +1,7 @@
 //! Models: reading the bytes (refusals 1 to 6), the limits that blank stay
 //! fields mean (mark 2 is request (c) of document 02), and the test that each
-//! closed walk of edges resets each clock (refusal 7).
+//! closed walk of edges that can open resets each clock (refusal 7; which edges
+//! can is request (f)).
 
 use crate::limits::{MAX_CEILING, MAX_CLOCKS, MAX_EDGES, MAX_LOCATIONS};
 use crate::numbers::Reader;
@@ -29,6 +30,12 @@ pub struct Edge {
     /// The guard: low <= clock <= high.
     pub low: [u8; MAX_CLOCKS],
     pub high: [u8; MAX_CLOCKS],
+}
+
+impl Edge {
+    pub fn keeps(&self, clock: usize) -> bool {
+        self.resets >> clock & 1 == 0
+    }
 }
 
 #[derive(Clone, Debug, PartialEq, Eq)]
@@ -200,15 +207,22 @@ impl Model {
         Ok(())
     }
 
-    /// Whether some closed walk of edges leaves some clock unreset. Guards
-    /// and invariants play no part: only the drawing is looked at.
+    /// Whether an edge can open alone: each low is within the limit of the
+    /// location that it leaves and, if the clock is kept, of the one that it
+    /// enters. A high is no less than its low, so that it has no say.
+    pub fn can_open(&self, edge: &Edge) -> bool {
+        let within = |at: usize, clock: usize| edge.low[clock] <= self.locations[at].limit[clock];
+        (0..self.clocks)
+            .all(|clock| within(edge.from, clock) && (!edge.keeps(clock) || within(edge.to, clock)))
+    }
+
+    /// Whether some closed walk of edges that can open leaves some clock
+    /// unreset. No more is asked of the walk: a run may be unable to go it, or
+    /// to get there.
     pub fn leaves_a_clock_unreset(&self) -> bool {
+        let opening = || self.edges.iter().filter(|edge| self.can_open(edge));
         (0..self.clocks).any(|clock| {
-            let keeping: Vec<&Edge> = self
-                .edges
-                .iter()
-                .filter(|edge| edge.resets >> clock & 1 == 0)
-                .collect();
+            let keeping: Vec<&Edge> = opening().filter(|edge| edge.keeps(clock)).collect();
             has_cycle(self.locations.len(), &keeping)
         })
     }
@@ -311,5 +325,45 @@ mod tests {
         assert!(pair(3, 0).is_ok());
         assert_eq!(pair(1, 1), Err(7));
         assert_eq!(pair(0, 2), Err(7));
+    }
+
+    /// Two clocks, ceiling 2: an edge between two locations with these stay
+    /// fields, and one back that resets nothing.
+    fn there_and_back(stays: [[u8; 2]; 2], resets: u8, low: [u8; 2]) -> Result<Model, Refusal> {
+        let [[a, b], [c, d]] = stays;
+        let [x, y] = low;
+        read_model(&[
+            1, 2, 2, 2, 2, 0, 0, a, b, 0, c, d, 0, 1, resets, x, 2, y, 2, 1, 0, 0, 0, 2, 0, 2,
+        ])
+    }
+
+    #[test]
+    fn edges_that_cannot_open() {
+        let open = [0, 0];
+        // Above the limit of one clock, where it leaves or where it enters.
+        for (stays, low) in [
+            ([[2, 0], open], [2, 0]),
+            ([[0, 2], open], [0, 2]),
+            ([open, [2, 0]], [2, 0]),
+            ([open, [0, 2]], [0, 2]),
+            ([open, [1, 1]], [0, 1]),
+        ] {
+            assert!(there_and_back(stays, 0, low).is_ok());
+            // At the limit, and with every limit at the ceiling.
+            assert_eq!(there_and_back(stays, 0, low.map(|low| low / 2)), Err(7));
+            assert_eq!(there_and_back([open; 2], 0, low), Err(7));
+        }
+    }
+
+    #[test]
+    fn resets_of_an_edge_that_cannot_open() {
+        // Of the clock by which it is shut on entry, which opens it; of the other.
+        let entry = |resets| there_and_back([[0, 0], [2, 0]], resets, [2, 0]);
+        assert_eq!(entry(1), Err(7));
+        assert!(entry(2).is_ok());
+        // Where it leaves, a reset comes too late; the other clock is as shut.
+        let leave = |resets| there_and_back([[2, 0], [0, 0]], resets, [2, 0]);
+        assert!(leave(1).is_ok());
+        assert!(leave(2).is_ok());
     }
 }

@@ -15,7 +15,7 @@ pub const BAD_LOCATION: Refusal = 4;
 pub const BAD_EDGE: Refusal = 5;
 /// Bytes remain at the end.
 pub const BYTES_REMAIN: Refusal = 6;
-/// A closed walk of edges leaves a clock unreset.
+/// A closed walk of edges that can open leaves a clock unreset.
 pub const CLOCK_UNRESET: Refusal = 7;
 /// A scratch slice is shorter than the number of states.
 pub const SCRATCH_TOO_SHORT: Refusal = 8;

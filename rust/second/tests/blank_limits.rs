@@ -10,7 +10,7 @@ use second::generate::{classify, generate, Class, KINDS};
 use second::graph::Graph;
 use second::mutate::mutate;
 use second::numbers::{numbers_of, shortest};
-use second::{harm, judge, marks, read_model, read_plan, sheet_margin};
+use second::{harm, judge, read_model, read_plan, sheet_margin};
 use std::collections::BTreeMap;
 
 /// The accepted models of all kinds.
@@ -44,13 +44,6 @@ fn spelt_out(plan: &[u8]) -> Vec<u8> {
     shortest(&numbers)
 }
 
-fn marks_of(plan: &[u8]) -> Vec<u8> {
-    let mut out = vec![9; ENOUGH[0]];
-    let states = marks(plan, ENOUGH, &mut out).expect("an accepted plan");
-    out.truncate(states);
-    out
-}
-
 /// One clock, ceiling 3: the limits of the locations with mark 2, all fields
 /// being blank. With mark 1 all are 3.
 #[test]
@@ -74,7 +67,7 @@ fn by_hand() {
         let header = [2, 1, 3, locations, edges.len() as u8, 0];
         let blanks = vec![0; 2 * usize::from(locations)];
         let plan = [&header, &blanks[..], &edges.concat()].concat();
-        let read = by_both_marks(&plan).map(|model| -> Vec<u8> {
+        let read = by_both_marks(&plan).unwrap().map(|model| -> Vec<u8> {
             let all = model.locations.iter();
             all.map(|location| location.limit[0]).collect()
         });
@@ -128,8 +121,8 @@ fn as_with_the_limits_spelt_out() {
             let other = mutate(3 * seed + change, plan, &ours).1;
             assert_eq!(check(plan, &other), check(&same, &other), "{plan:?}");
         }
-        let [one, two] = by_both_marks(plan);
-        blank += usize::from(plan[0] % 128 == 2 && one != two);
+        let differs = by_both_marks(plan).is_ok_and(|[one, two]| one != two);
+        blank += usize::from(plan[0] % 128 == 2 && differs);
     };
     for_accepted(40, &mut compare);
     (0..1_000).for_each(|seed| compare(seed, &generate(seed, "blank").unwrap()));
@@ -149,8 +142,9 @@ fn moving_to_mark_2() {
             }
         }
         numbers[0] = 2;
-        let moved = read_plan(&shortest(&numbers)).unwrap();
-        assert_eq!((moved.mark, Ok(moved.model)), (2, read_model(&old)));
+        let moved = read_plan(&shortest(&numbers));
+        assert!(moved.as_ref().is_ok_and(|moved| moved.mark == 2) || moved == Err(7));
+        assert_eq!(moved.map(|moved| moved.model), read_model(&old));
     });
 }
 
@@ -176,7 +170,9 @@ fn blank_limits_shut_no_edge() {
 fn marked_with_both_marks() {
     let mut seen: BTreeMap<(Class, Class), usize> = BTreeMap::new();
     let mut compare = |plan: &[u8]| {
-        let [one, two] = by_both_marks(plan);
+        let Ok([one, two]) = by_both_marks(plan) else {
+            return;
+        };
         if one == two {
             return;
         }

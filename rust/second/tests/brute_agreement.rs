@@ -8,7 +8,7 @@ use second::brute::read::read_with_mark;
 use second::brute::regions::NaiveRegions;
 use second::brute::trails::{least_of_all, least_trail, least_walk};
 use second::brute::Brute;
-use second::generate::{generate, KINDS};
+use second::generate::{generate, KINDS, SMALL};
 use second::graph::Graph;
 use second::limits::NUMBER_BYTES;
 use second::mutate::{mutate, mutate_as, roles, Role};
@@ -106,6 +106,24 @@ fn small_models() {
 #[test]
 fn blank_models() {
     assert_eq!(compare_kind("blank", 0..3_000, 12), 3_000);
+}
+
+/// Closed walks that do not count, and such that do. Larger models are left to
+/// the plain route alone.
+#[test]
+fn models_with_dead_links() {
+    let (mut accepted, mut refused) = (0, 0);
+    for seed in 0..3_000 {
+        let model = generate(seed, "dead-links").unwrap();
+        match judge(&model, [SMALL; 4]) {
+            Err(8) => continue,
+            Ok(_) => accepted += 1,
+            Err(_) => refused += 1,
+        }
+        compare(&model, seed, 12);
+    }
+    println!("accepted {accepted}, refused {refused}");
+    assert!(accepted >= 1_800 && refused >= 400);
 }
 
 /// The same plans with the other mark: its states, sets and evidence too.

@@ -11,6 +11,7 @@ use second::calls::states_of;
 use second::cases::rules::{broken_rules, Rule, RULES};
 use second::cases::{answers, cases};
 use second::components::Components;
+use second::dead_links::is_refused_by_all_edges;
 use second::graph::Graph;
 use second::limits::{MAX_CLOCKS, MAX_EDGES};
 use second::marking::{levels, Closure, ALL_STEPS};
@@ -18,8 +19,8 @@ use second::mutate::{roles, Role};
 use second::numbers::{numbers_of, shortest, Reader};
 use second::padding::{first_padded, pad_at};
 use second::program::{bytes_of_text, SCRATCH};
-use second::read_model;
 use second::refusal::LAST;
+use second::{read_model, read_plan};
 use std::collections::BTreeSet;
 
 /// A plan, the line of a case of it, and the answer.
@@ -453,6 +454,27 @@ fn plans_of_both_marks() {
     }
     let words = BTreeSet::from(["judge", "marks", "margin", "plan", "soonest", "1"]);
     assert!(words.is_subset(&differs), "{differs:?}");
+}
+
+/// With each number of clocks, with both marks and both verdicts, plans are judged
+/// that the test on all edges refuses.
+#[test]
+fn walks_that_do_not_count() {
+    let (mut judged, mut kinds) = (0, BTreeSet::new());
+    for (model, line, answer) in all_answered() {
+        let Ok(reading) = read_plan(&model) else {
+            continue;
+        };
+        if line == "judge" && is_refused_by_all_edges(&reading.model) {
+            let start: String = answer.chars().take(3).collect();
+            kinds.insert((reading.mark, reading.model.clocks, start));
+            judged += 1;
+        }
+    }
+    println!("{judged} {kinds:?}");
+    let has = |mark, clocks, start: &str| kinds.contains(&(mark, clocks, start.to_string()));
+    assert!(judged >= 25 && (1..=MAX_CLOCKS).all(|clocks| has(1, clocks, "0 0")));
+    assert!(has(2, 1, "0 0") && has(2, 2, "0 0") && has(1, 1, "0 1") && has(1, 2, "0 1"));
 }
 
 /// The stored input of the proved program is these cases, its stored output

@@ -105,6 +105,7 @@ fn both_routes_on_small_models() {
         ("tiny", 2_500),
         ("small", 2_500),
         ("blank", 1_000),
+        ("dead-links", 1_500),
         ("noise", 1_500),
     ] {
         models(kind, seeds, 160)

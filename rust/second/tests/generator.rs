@@ -6,6 +6,7 @@ use common::*;
 use second::blanks::{by_both_marks, is_safe_by_its_mark};
 use second::calls::states_of;
 use second::components::Components;
+use second::dead_links::{has_dead_edge, is_refused_by_all_edges};
 use second::generate::{classify, generate, respelled, shares};
 use second::generate::{Class, KINDS, MIDDLE, SMALL, TINY};
 use second::graph::{Graph, JUMP, TIME};
@@ -15,10 +16,10 @@ use second::mutate::{self, mutate, mutate_as};
 use second::numbers::numbers_of;
 use second::random::Random;
 use second::refusal::LAST;
-use second::{judge, read_model, read_plan, soonest};
+use second::{judge, read_model, read_plan, soonest, Edge, Model};
 use std::collections::{BTreeMap, BTreeSet};
 
-fn model(seed: u64, kind: &str) -> second::Model {
+fn model(seed: u64, kind: &str) -> Model {
     read_model(&generate(seed, kind).unwrap()).unwrap()
 }
 
@@ -79,8 +80,8 @@ fn marks() {
             };
             let class = classify(&reading.model);
             *seen.entry((class, reading.mark)).or_default() += 1;
-            let [one, two] = by_both_marks(&bytes);
-            blank += usize::from(reading.mark == 2 && one != two);
+            let both = by_both_marks(&bytes);
+            blank += usize::from(reading.mark == 2 && both.is_ok_and(|[one, two]| one != two));
         }
         if seen.values().sum::<usize>() < 300 {
             continue; // refused, or noise
@@ -103,7 +104,7 @@ fn blank_models() {
     for seed in 0..400 {
         let bytes = generate(seed, "blank").unwrap();
         let reading = read_plan(&bytes).unwrap();
-        let [one, two] = by_both_marks(&bytes);
+        let [one, two] = by_both_marks(&bytes).unwrap();
         assert_eq!((reading.mark, &reading.model), (2, &two));
         assert!(one != two && states_of(&two) <= SMALL);
         forms.extend(forms_of_stays(&bytes));
@@ -200,6 +201,67 @@ fn after_time(graph: &Graph, state: usize) -> Option<usize> {
     let mut steps = graph.steps(state).iter();
     let step = steps.find(|step| step.kind == TIME)?;
     Some(step.to as usize)
+}
+
+/// Some are refused by 7. The others have a dead edge and are of every class and
+/// mark; most have a closed walk that a dead edge alone keeps from counting. Dead
+/// edges come up in every form, and so do edges that are nearly dead.
+#[test]
+fn models_with_dead_links() {
+    let [mut refused, mut by_dead] = [0; 2];
+    let mut classes: BTreeMap<(Class, u32), usize> = BTreeMap::new();
+    let mut forms: BTreeMap<&str, usize> = BTreeMap::new();
+    for seed in 0..1_000 {
+        let bytes = generate(seed, "dead-links").unwrap();
+        let Ok(reading) = read_plan(&bytes) else {
+            assert_eq!(read_plan(&bytes), Err(7));
+            refused += 1;
+            continue;
+        };
+        let model = &reading.model;
+        assert!(states_of(model) <= MIDDLE && has_dead_edge(model));
+        *classes.entry((classify(model), reading.mark)).or_default() += 1;
+        by_dead += usize::from(is_refused_by_all_edges(model));
+        let edges = model.edges.iter();
+        let found: BTreeSet<&str> = edges.flat_map(|edge| forms_of(&bytes, edge)).collect();
+        for form in found {
+            *forms.entry(form).or_default() += 1;
+        }
+    }
+    println!("refused {refused}, accepted by a dead edge {by_dead}");
+    println!("{classes:?} {forms:?}");
+    assert!(refused >= 100 && by_dead >= 500);
+    assert!(classes.len() == 6 && classes.values().all(|&times| times >= 60));
+    assert!(forms.len() == 7 && forms.values().all(|&times| times >= 60));
+}
+
+/// What is seen of the lows of an edge.
+fn forms_of(bytes: &[u8], edge: &Edge) -> Vec<&'static str> {
+    let (numbers, model) = (numbers_of(bytes).unwrap(), read_model(bytes).unwrap());
+    let opens = model.can_open(edge);
+    let mut forms = Vec::new();
+    let mut shut = 0;
+    for clock in 0..model.clocks {
+        let (low, kept) = (edge.low[clock], edge.keeps(clock));
+        let [from, to] = [edge.from, edge.to].map(|at| model.locations[at].limit[clock]);
+        let is_blank = numbers[7 + edge.to * (1 + model.clocks) + clock] == 0;
+        let is_between = (1..model.ceiling).contains(&low);
+        let seen = [
+            ("above from", low > from),
+            ("reset too late", low > from && !kept),
+            ("above to", low <= from && low > to && kept),
+            ("above a default", low > to && kept && is_blank),
+            ("reset in time", opens && low > to),
+            ("at the limit", opens && low == from.min(to) && is_between),
+        ];
+        let seen = seen.into_iter().filter(|(_, is_seen)| *is_seen);
+        forms.extend(seen.map(|(form, _)| form));
+        shut += usize::from(low > from || kept && low > to);
+    }
+    if (model.clocks, shut) == (3, 1) {
+        forms.push("one of three");
+    }
+    forms
 }
 
 /// All header numbers come up, and marks above 2 as well as 0.

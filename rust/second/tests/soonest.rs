@@ -4,14 +4,14 @@
 mod common;
 
 use common::*;
-use second::blanks::with_mark;
+use second::blanks::{by_both_marks, with_mark};
 use second::brute::read::read;
 use second::components::Components;
 use second::generate::{generate, respelled, KINDS};
 use second::graph::Graph;
 use second::limits::{MAX_CLOCKS, MAX_STATES};
 use second::marking::{reached, Closure};
-use second::model::{Model, EDGES_MARK};
+use second::model::Model;
 use second::random::Random;
 use second::widened::Runs;
 use second::{judge, read_model, read_plan, soonest};
@@ -262,9 +262,9 @@ fn what_plays_no_part() {
 fn marks() {
     let mut changed = [0; 2];
     for model in models(250, 1_000) {
-        let two = read_plan(&with_mark(&model, EDGES_MARK).unwrap())
-            .unwrap()
-            .model;
+        let Ok([_, two]) = by_both_marks(&model) else {
+            continue;
+        };
         let [by_one, by_two] = [1, 2].map(|mark| times(&with_mark(&model, mark).unwrap()));
         for (at, (one, two_time)) in by_one.iter().zip(&by_two).enumerate() {
             assert!(two_time.is_none_or(|time| one.is_some_and(|one| one <= time)));

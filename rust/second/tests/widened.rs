@@ -18,10 +18,17 @@ const ZONES: usize = 20_000;
 fn models() -> impl Iterator<Item = Model> {
     (0..600)
         .flat_map(|seed| {
-            ["tiny", "small", "blank", "clocks-2", "clocks-3"]
-                .map(|kind| generate(seed, kind).unwrap())
+            [
+                "tiny",
+                "small",
+                "blank",
+                "clocks-2",
+                "clocks-3",
+                "dead-links",
+            ]
+            .map(|kind| generate(seed, kind).unwrap())
         })
-        .map(|bytes| read_model(&bytes).unwrap())
+        .filter_map(|bytes| read_model(&bytes).ok())
         .filter(|model| model.edges.len() <= 10)
 }
 
@@ -123,7 +130,8 @@ fn bytes<'a>(kinds: &'a [&str], seeds: u64) -> impl Iterator<Item = Vec<u8>> + '
 #[test]
 fn harmless_drift() {
     let (mut safe, mut harmed) = (0, 0);
-    for bytes in bytes(&["tiny", "small", "blank", "middle", "clocks-3"], 400) {
+    let kinds = ["tiny", "small", "blank", "middle", "clocks-3", "dead-links"];
+    for bytes in bytes(&kinds, 400) {
         let Ok(SheetMargin::Safe { margin, .. }) = sheet_margin(&bytes, ENOUGH) else {
             continue;
         };
@@ -144,7 +152,8 @@ fn harmless_drift() {
 #[test]
 fn harm_in_time() {
     let mut drifted = 0;
-    for bytes in bytes(&["tiny", "small", "blank", "drift", "clocks-3"], 400) {
+    let kinds = ["tiny", "small", "blank", "drift", "clocks-3", "dead-links"];
+    for bytes in bytes(&kinds, 400) {
         let Ok(Harm::Within { bound, .. }) = harm(&bytes, ENOUGH) else {
             continue;
         };

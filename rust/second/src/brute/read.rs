@@ -1,6 +1,7 @@
 //! Reading a model: all numbers are spelled out first, then each is held
 //! against the range that the numbers before it give. Blank stay fields are
-//! looked up in the drawing, from the ceiling down.
+//! looked up in the drawing, from the ceiling down. An edge can open if some
+//! point of the clocks passes it; closed walks are gone one by one.
 
 use crate::limits::{MAX_CEILING, MAX_CLOCKS, MAX_EDGES, MAX_LOCATIONS, NUMBER_BYTES};
 
@@ -133,7 +134,7 @@ pub fn read_with_mark(bytes: &[u8]) -> Result<(u32, Plan), u8> {
         return Err(6);
     }
     let plan = plan_of(&spelled.numbers);
-    if (0..plan.clocks).any(|clock| plan.walks_without_reset(clock)) {
+    if plan.walks_without_reset() {
         return Err(7);
     }
     Ok((spelled.numbers[0], plan))
@@ -186,22 +187,45 @@ impl Plan {
             .unwrap_or(self.ceiling)
     }
 
-    /// Whether some location comes back to itself along edges that do not
-    /// reset the clock. A shortest such walk is no longer than the number of
-    /// locations.
-    fn walks_without_reset(&self, clock: usize) -> bool {
-        let locations = self.forbidden.len();
-        (0..locations).any(|home| {
-            let mut here = vec![home];
-            (0..locations).any(|_| {
-                here = self
-                    .edges
-                    .iter()
-                    .filter(|edge| here.contains(&edge.from) && !edge.resets[clock])
-                    .map(|edge| edge.to)
-                    .collect();
-                here.contains(&home)
-            })
+    /// Whether some whole point is within the guard and the limits of the
+    /// location that the edge leaves and, after the resets, within those of the
+    /// one that it enters.
+    pub fn lets_a_point_pass(&self, edge: &PlanEdge) -> bool {
+        let values = self.ceiling + 1;
+        let within = |at: usize, point: &[u32]| {
+            let mut pairs = point.iter().zip(&self.limits[at]);
+            pairs.all(|(value, limit)| value <= limit)
+        };
+        (0..values.pow(self.clocks as u32)).any(|number| {
+            let digit = |clock: usize| number / values.pow(clock as u32) % values;
+            let before: Vec<u32> = (0..self.clocks).map(digit).collect();
+            let mut pairs = before.iter().zip(&edge.guard);
+            let open = pairs.all(|(value, (low, high))| (low..=high).contains(&value));
+            let kept = edge.resets.iter().map(|&reset| u32::from(!reset));
+            let after: Vec<u32> = before.iter().zip(kept).map(|(v, kept)| v * kept).collect();
+            open && within(edge.from, &before) && within(edge.to, &after)
         })
     }
+
+    /// Whether some closed walk of edges that let a point pass leaves a clock
+    /// unreset. One that passes no location twice does, if any does.
+    fn walks_without_reset(&self) -> bool {
+        let all = self.edges.iter();
+        let edges: Vec<&PlanEdge> = all.filter(|edge| self.lets_a_point_pass(edge)).collect();
+        let clocks: Vec<usize> = (0..self.clocks).collect();
+        (0..self.forbidden.len()).any(|home| closes(&edges, &[home], &clocks))
+    }
+}
+
+/// Whether a way on from the last of these locations, none of which it passes,
+/// leads back to the first and keeps one of these clocks throughout.
+fn closes(edges: &[&PlanEdge], places: &[usize], clocks: &[usize]) -> bool {
+    let mut on = edges.iter().filter(|edge| places.ends_with(&[edge.from]));
+    on.any(|edge| {
+        let kept = clocks.iter().copied().filter(|&clock| !edge.resets[clock]);
+        let kept: Vec<usize> = kept.collect();
+        let longer = [places, &[edge.to]].concat();
+        let goes_on = || !places.contains(&edge.to) && closes(edges, &longer, &kept);
+        !kept.is_empty() && (edge.to == places[0] || goes_on())
+    })
 }

@@ -62,7 +62,7 @@ mark 2, more states than scratch: 2,3,4,3,0,0,0,0,0,0,0,0,0,0,0,0,0,0
 ";
 
 /// Longer evidence is left to our own operation.
-const SHORT: usize = 40;
+pub const SHORT: usize = 40;
 
 pub fn blanks(text: &mut Text) {
     text.all(PLANS, in_both_marks);
@@ -86,20 +86,21 @@ fn in_both_marks(text: &mut Text, name: &str, plan: &[u8]) {
     }
 }
 
-fn ours_for(plan: &[u8]) -> Vec<u8> {
+pub fn ours_for(plan: &[u8]) -> Vec<u8> {
     let model = read_model(plan).expect("an accepted plan");
     evidence_of(&Graph::new(model)).1
 }
 
 /// Those of document 01, those of drift, and the shortest form with a byte to
 /// spare.
-fn every_operation(text: &mut Text, name: &str, plan: &[u8]) {
+pub fn every_operation(text: &mut Text, name: &str, plan: &[u8]) {
     text.judged_with_drift(name, plan);
     let needed = shortest_plan(&read_plan(plan).expect("an accepted plan")).len();
     text.line(&format!("plan {}", needed + 1));
 }
 
-fn refused(text: &mut Text, name: &str, plan: &[u8]) {
+/// A refusal, with no more operations than show it.
+pub fn refused(text: &mut Text, name: &str, plan: &[u8]) {
     text.named(name, plan);
     text.line("judge");
     text.line("plan 40");

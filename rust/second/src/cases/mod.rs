@@ -4,6 +4,7 @@
 mod answers;
 mod blanks;
 mod evidence;
+mod opening;
 mod operations;
 mod padding;
 mod plans;
@@ -38,6 +39,7 @@ pub fn cases() -> String {
     blanks::blanks(&mut text);
     rounds::rounds(&mut text);
     soonest::soonest(&mut text);
+    opening::opening(&mut text);
     text.lines
 }
 

@@ -148,7 +148,7 @@ fn loops(edges: u8) -> Vec<u8> {
 
 /// Eight locations in a ring of eight edges, of which only the last has this
 /// mask.
-fn eight(mask: u8) -> Vec<u8> {
+pub fn eight(mask: u8) -> Vec<u8> {
     let mut plan = vec![1, 1, 1, 8, 8, 0];
     plan.extend([0; 16]);
     for edge in 0..8 {

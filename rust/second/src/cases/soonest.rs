@@ -164,6 +164,10 @@ fn asked<const N: usize>(text: &mut Text, locations: [u64; N], scratch: &str) {
 /// An accepted plan with each of its locations.
 fn everywhere(text: &mut Text, name: &str, plan: &[u8]) {
     text.named(&format!("{name}, soonest"), plan);
+    each_location(text, plan);
+}
+
+pub fn each_location(text: &mut Text, plan: &[u8]) {
     let model = read_model(plan).expect("an accepted plan");
     for location in 0..model.locations.len() as u64 {
         asked(text, [location], &enough(states_of(&model)));

@@ -56,6 +56,14 @@ pub fn evidence(model: &[u8]) -> Vec<u8> {
     out
 }
 
+/// A byte 1 or 0 for each state.
+pub fn marks_of(plan: &[u8]) -> Vec<u8> {
+    let mut out = vec![9; MAX_STATES];
+    let states = second::marks(plan, ENOUGH, &mut out).expect("an accepted model");
+    out.truncate(states);
+    out
+}
+
 pub fn check(model: &[u8], evidence: &[u8]) -> Result<u32, u8> {
     second::check_evidence(model, evidence, ENOUGH)
 }
