@@ -15,7 +15,8 @@ use Rattle.limits.specs.Limits.{maxLocations}
 use Rattle.limits.proofs.Zeros.{zeros}
 use Rattle.model.specs.Each.{each, someBelow}
 use Rattle.model.specs.Model.{Lawful, sourceOf, targetOf}
-use Rattle.edge_walks.specs.Cycle.{DrawingWalk, here, step, ClosedWalk, LeavesUnreset, markedAt, markSource, markEdge, roundOf, survivors, hasCycle, Counts, counts, unresetAt, unreset}
+use Rattle.edge_walks.specs.Opening.{markedAt}
+use Rattle.edge_walks.specs.Cycle.{DrawingWalk, here, step, ClosedWalk, LeavesUnreset, markSource, markEdge, roundOf, survivors, hasCycle, Counts, counts, unresetAt, unreset}
 use Rattle.model.proofs.Each.{some-law}
 use Rattle.model.proofs.Gather.{each-ext}
 use Rattle.edge_walks.proofs.Opens.{ends-below, counts-law}

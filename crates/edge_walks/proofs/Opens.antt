@@ -1,23 +1,20 @@
--- The test of an edge is the paper's, and flags stand where a test passes.
-use Prim.Native.Nat.{ℕ, zero, suc, _≤_, _<_}
+-- The test of an edge is the paper's; flags that are put one by one.
+use Prim.Native.Nat.{ℕ, suc, _≤_, _<_}
 use native.Mathlib.Omega.{arith}
-use mathlib.Core.Path.{_≡_, refl, ap, subst, _∙_}
+use mathlib.Core.Path.{_≡_, refl, ap, _∙_}
 use mathlib.Core.Logic.{_↔_}
 use mathlib.Core.List.{List}
-use mathlib.Core.Bool.{Bool, true, false, cond, _&&_}
-use lib.ListN.{length, getD, set, replicate, length-set}
+use mathlib.Core.Bool.{Bool, true, false, _&&_}
+use lib.ListN.{length, set}
 use lib.Seq.{getD-set-same, getD-set-other}
 use lib.Dec.{eqb, leb}
-use borrow.Author.Tests.{eqb-true, eqb-false, eq-eqb, ne-eqb, leb-true, le-leb}
-use Rattle.limits.specs.Limits.{maxEdges, maxLocations}
-use Rattle.limits.proofs.Zeros.{zeros}
-use Rattle.number.proofs.Laws.{cond-ind}
+use borrow.Author.Tests.{eqb-true, eqb-false, leb-true, le-leb}
+use Rattle.limits.specs.Limits.{maxLocations}
 use Rattle.model.specs.declared.Model.{Model}
-use Rattle.model.specs.Each.{each}
 use Rattle.model.specs.Model.{Lawful, sourceOf, targetOf, limitAt, lowAt, keeps}
 use Rattle.model.proofs.Each.{false≢true, all-law}
-use Rattle.edge_walks.specs.Opening.{OpensAlone, letsOpen, opensFor, opensAlone, edgeFlags}
-use Rattle.edge_walks.specs.Cycle.{Counts, counts, markedAt}
+use Rattle.edge_walks.specs.Opening.{OpensAlone, letsOpen, opensFor, opensAlone, markedAt, flagOf}
+use Rattle.edge_walks.specs.Cycle.{Counts, counts}
 
 -- an edge joins two of the locations that there may be
 pub ends-below : (m : Model) → Lawful m → (e : ℕ) → (sourceOf m e < maxLocations) × (targetOf m e < maxLocations)
@@ -64,54 +61,19 @@ module _ (m : Model) (e : ℕ) where
 
 -- ---- flags
 
-module _ (pass : ℕ → Bool) where
-  flagged : ℕ → List ℕ
-  flagged n = each n (λ e flags. cond (pass e) (set flags e 1) flags) (replicate maxEdges 0)
+flag-is : (b : Bool) → eqb (flagOf b) 1 ≡ b
+flag-is true = refl
+flag-is false = refl
 
-  flagged-length : (n : ℕ) → length (flagged n) ≡ maxEdges
-  unfolding flagged each
-  flagged-length zero = refl
-  flagged-length (suc n) =
-      cond-ind (λ (l : List ℕ). length l ≡ maxEdges) (pass n) (λ _. length-set (flagged n) n 1 ∙ flagged-length n) (λ _. flagged-length n)
-
-  -- what is not reached yet
-  unreached : (n e : ℕ) → n ≤ e → getD (flagged n) e 0 ≡ 0
-  unfolding flagged each
-  unreached zero e h = zeros maxEdges e
-  unreached (suc n) e h =
-      cond-ind (λ (l : List ℕ). getD l e 0 ≡ 0) (pass n)
-      (λ _. getD-set-other (flagged n) n e 1 0 (λ z. omega arith) ∙ unreached n e (omega arith))
-      (λ _. unreached n e (omega arith))
-
-  -- what is reached last
-  reached : (e : ℕ) → e < maxEdges → getD (flagged (suc e)) e 0 ≡ cond (pass e) 1 0
-  unfolding flagged each
-  reached e h = by (pass e)
-    where
-      by : (b : Bool) → getD (cond b (set (flagged e) e 1) (flagged e)) e 0 ≡ cond b 1 0
-      by true = getD-set-same (flagged e) e 1 0 (omega (arith, flagged-length e))
-      by false = unreached e e (omega arith)
-
-  flagged-at : (n e : ℕ) → n ≤ maxEdges → e < n → getD (flagged n) e 0 ≡ cond (pass e) 1 0
-  unfolding flagged each
-  flagged-at zero e top h = absurd (omega arith)
-  flagged-at (suc n) e top h = go (eqb e n) refl (λ b. flagged-at n e (omega arith) b)
-    where
-      later : (e ≡ n → ⊥) → getD (flagged n) e 0 ≡ cond (pass e) 1 0 → getD (flagged (suc n)) e 0 ≡ cond (pass e) 1 0
-      later d before =
-          cond-ind (λ (l : List ℕ). getD l e 0 ≡ cond (pass e) 1 0) (pass n) (λ _. getD-set-other (flagged n) n e 1 0 d ∙ before) (λ _. before)
-
-      go : (s : Bool) → eqb e n ≡ s → (e < n → getD (flagged n) e 0 ≡ cond (pass e) 1 0) → getD (flagged (suc n)) e 0 ≡ cond (pass e) 1 0
-      go true q ih = subst (λ (k : ℕ). getD (flagged (suc k)) e 0 ≡ cond (pass e) 1 0) (eqb-true e n q) (reached e (omega arith))
-      go false q ih = later (eqb-false e n q) (ih (let d = eqb-false e n q in omega arith))
-
--- an edge's flag is set where it passes
-pub flag-at : (m : Model) → m .edges ≤ maxEdges → (pass : ℕ → Bool) (e : ℕ) → e < m .edges → markedAt (edgeFlags m pass) e ≡ pass e
-unfolding edgeFlags flagged
-flag-at m few pass e h = by (pass e) refl
+-- the next flag
+pub put-flag : (pass : ℕ → Bool) (flags : List ℕ) (e : ℕ) → e < length flags → ((i : ℕ) → i < e → markedAt flags i ≡ pass i)
+    → (i : ℕ) → i < suc e → markedAt (set flags e (flagOf (pass e))) i ≡ pass i
+put-flag pass flags e room before i h = by (eqb i e) refl
   where
-    by : (b : Bool) → pass e ≡ b → markedAt (edgeFlags m pass) e ≡ b
-    by true p = eq-eqb _ 1 (flagged-at pass (m .edges) e few h ∙ ap (λ (t : Bool). cond t 1 0) p)
-    by false p =
-        let none : getD (flagged pass (m .edges)) e 0 ≡ 0 = flagged-at pass (m .edges) e few h ∙ ap (λ (t : Bool). cond t 1 0) p in
-        ne-eqb (getD (flagged pass (m .edges)) e 0) 1 (λ z. omega arith)
+    by : (s : Bool) → eqb i e ≡ s → markedAt (set flags e (flagOf (pass e))) i ≡ pass i
+    by true q =
+        let same = eqb-true i e q in
+        rw same (ap (λ (v : ℕ). eqb v 1) (getD-set-same flags e (flagOf (pass e)) 0 room) ∙ flag-is (pass e))
+    by false q =
+        let other = eqb-false i e q in
+        ap (λ (v : ℕ). eqb v 1) (getD-set-other flags e i (flagOf (pass e)) 0 other) ∙ before i (omega arith)

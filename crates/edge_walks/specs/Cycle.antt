@@ -3,13 +3,12 @@ use Prim.Native.Nat.{ℕ, zero, suc, _<_}
 use mathlib.Core.Path.{_≡_}
 use mathlib.Core.List.{List}
 use mathlib.Core.Bool.{Bool, true, cond, _&&_}
-use lib.ListN.{getD, set, replicate}
-use lib.Dec.{eqb}
+use lib.ListN.{set, replicate}
 use Rattle.model.specs.declared.Model.{Model}
 use Rattle.limits.specs.Limits.{maxLocations}
 use Rattle.model.specs.Each.{each, someBelow}
 use Rattle.model.specs.Model.{sourceOf, targetOf, keeps}
-use Rattle.edge_walks.specs.Opening.{OpensAlone, opensAlone}
+use Rattle.edge_walks.specs.Opening.{OpensAlone, opensAlone, markedAt}
 
 -- a walk of k edges from v to u, all of them of the choice
 pub data DrawingWalk (m : Model) (Choice : ℕ → Type 0) : ℕ → ℕ → ℕ → Type 0 where
@@ -30,9 +29,6 @@ abbrev pub LeavesUnreset : Model → Type 0
 LeavesUnreset m = (x : ℕ) × (x < m .clocks) × ClosedWalk m (Counts m x)
 
 -- ---- by rounds: after k of them 1 stands at the locations where a walk of k edges starts
-
-abbrev pub markedAt : List ℕ → ℕ → Bool
-markedAt a i = eqb (getD a i 0) 1
 
 -- an edge that passes marks its source in b where its target is marked in a
 abbrev pub markSource : Bool → ℕ → ℕ → List ℕ → List ℕ → List ℕ

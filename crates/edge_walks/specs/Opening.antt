@@ -3,11 +3,10 @@ use Prim.Native.Nat.{ℕ, _≤_, _<_}
 use mathlib.Core.Path.{_≡_}
 use mathlib.Core.Bool.{Bool, true, cond, _&&_}
 use mathlib.Core.List.{List}
-use lib.ListN.{set, replicate}
-use lib.Dec.{leb}
-use Rattle.limits.specs.Limits.{maxEdges}
+use lib.ListN.{getD}
+use lib.Dec.{eqb, leb}
 use Rattle.model.specs.declared.Model.{Model}
-use Rattle.model.specs.Each.{each, allBelow}
+use Rattle.model.specs.Each.{allBelow}
 use Rattle.model.specs.Model.{sourceOf, targetOf, limitAt, lowAt, keeps}
 
 -- "each low is within the stay limit of its from-location, and each clock it doesn't reset has a low within the stay limit of its to-location"
@@ -27,6 +26,14 @@ opensFor m e x = letsOpen (lowAt m e x) (limitAt m (sourceOf m e) x) (limitAt m 
 unfoldable pub opensAlone : Model → ℕ → Bool
 opensAlone m e = allBelow (m .clocks) (opensFor m e)
 
--- 1 at the edges of a model that pass a test, 0 elsewhere
-unfoldable pub edgeFlags : Model → (ℕ → Bool) → List ℕ
-edgeFlags m pass = each (m .edges) (λ e flags. cond (pass e) (set flags e 1) flags) (replicate maxEdges 0)
+-- ---- as flags, one for each edge
+
+abbrev pub markedAt : List ℕ → ℕ → Bool
+markedAt a i = eqb (getD a i 0) 1
+
+abbrev pub flagOf : Bool → ℕ
+flagOf b = cond b 1 0
+
+-- the edges of a model with a flag are those that pass
+pub record Flagged (m : Model) (flags : List ℕ) (pass : ℕ → Bool) : Type 0 where
+  pub at : (e : ℕ) → e < m .edges → markedAt flags e ≡ pass e

@@ -7,28 +7,26 @@ ghost use mathlib.Core.Bool.{_||_};
 ghost use Prim.Native.Nat.{_<_};
 ghost use Rattle.limits.specs.Limits.{maxClocks};
 ghost use Rattle.model.specs.Model.{Lawful};
-ghost use Rattle.edge_walks.specs.Opening.{opensAlone, edgeFlags};
+ghost use Rattle.edge_walks.specs.Opening.{opensAlone, Flagged};
 ghost use Rattle.edge_walks.specs.Cycle.{counts, unresetAt, unreset};
 use cycle::has_cycle;
 use limits::MAX_EDGES;
 use model::Model;
+use opening::as_flag;
 use opening::keeps_clock;
 use opening::open_edges;
-use opening::set_flag;
 
 // Of the edges that can open alone, those that keep the clock.
 fn counted_edges(m: Model, opens: [u8; MAX_EDGES], x: u8) -> [u8; MAX_EDGES]
     requires { ⌜ Lawful m ⌝ }
     requires { ⌜ x < maxClocks ⌝ }
-    requires { ⌜ opens ≡ edgeFlags m (opensAlone m) ⌝ }
-    ensures { λ r. ⌜ r ≡ edgeFlags m (counts m x) ⌝ }
+    requires { ⌜ Flagged m opens (opensAlone m) ⌝ }
+    ensures { λ r. ⌜ Flagged m r (counts m x) ⌝ }
 {
     let count = m.edges as usize;
     let mut flags = [0; MAX_EDGES];
     for e in 0..count {
-        let passes = keeps_clock(m.reset[e], x) & (opens[e] == 1);
-        let f = set_flag(flags, e, passes);
-        flags = f;
+        flags[e] = as_flag(keeps_clock(m.reset[e], x) & (opens[e] == 1));
     }
     flags
 }
@@ -36,7 +34,7 @@ fn counted_edges(m: Model, opens: [u8; MAX_EDGES], x: u8) -> [u8; MAX_EDGES]
 fn or_unreset(m: Model, opens: [u8; MAX_EDGES], x: u8, found: bool) -> bool
     requires { ⌜ Lawful m ⌝ }
     requires { ⌜ x < maxClocks ⌝ }
-    requires { ⌜ opens ≡ edgeFlags m (opensAlone m) ⌝ }
+    requires { ⌜ Flagged m opens (opensAlone m) ⌝ }
     ensures { λ r. ⌜ r ≡ (unresetAt m x || found) ⌝ }
 {
     if has_cycle(m, counted_edges(m, opens, x)) {

@@ -1,12 +1,11 @@
-// Which edges can open alone: flags, by one look at each edge.
+// Which edges can open alone, as flags.
 ghost use mathlib.Core.Path.{_≡_};
-ghost use mathlib.Core.Bool.{cond};
+ghost use mathlib.Core.Bool.{_&&_};
 ghost use Prim.Native.Nat.{_<_, _^_, _/_, _%_};
 ghost use lib.Dec.{eqb};
-ghost use lib.ListN.{set};
-ghost use Rattle.limits.specs.Limits.{maxClocks, maxEdges};
+ghost use Rattle.limits.specs.Limits.{maxClocks};
 ghost use Rattle.model.specs.Model.{Lawful};
-ghost use Rattle.edge_walks.specs.Opening.{letsOpen, opensAlone, edgeFlags};
+ghost use Rattle.edge_walks.specs.Opening.{letsOpen, opensFor, opensAlone, markedAt, flagOf, Flagged};
 use limits::MAX_EDGES;
 use model::Model;
 use model::STRIDE;
@@ -32,53 +31,48 @@ fn lets_open(low: u8, from: u8, to: u8, kept: bool) -> bool
     true
 }
 
-fn opens_alone(m: Model, e: usize) -> bool
-    requires { ⌜ Lawful m ⌝ }
-    requires { ⌜ e < maxEdges ⌝ }
-    ensures { λ r. ⌜ r ≡ opensAlone m e ⌝ }
+pub fn as_flag(passes: bool) -> u8
+    ensures { λ r. ⌜ r ≡ flagOf passes ⌝ }
 {
-    let clocks = m.clocks as usize;
-    let source = STRIDE * (m.source[e] as usize);
-    let target = STRIDE * (m.target[e] as usize);
-    let guard = STRIDE * e;
-    let mask = m.reset[e];
-    let mut opens = true;
-    for x in 0..clocks {
-        let kept = keeps_clock(mask, x as u8);
-        let lets = lets_open(
-            m.lower[guard + x],
-            m.invariant[source + x],
-            m.invariant[target + x],
-            kept,
-        );
-        opens = lets & opens;
+    if passes {
+        return 1;
     }
-    opens
+    0
 }
 
-// One flag more.
-pub fn set_flag(flags: [u8; MAX_EDGES], e: usize, passes: bool) -> [u8; MAX_EDGES]
-    requires { ⌜ e < maxEdges ⌝ }
-    ensures { λ r. ⌜ r ≡ cond passes (set flags e 1) flags ⌝ }
+// Of the flagged edges, those that a clock lets open. Clock by clock, since a model is handed on by value: edge by edge it would be copied for each.
+fn clock_opens(m: Model, x: usize, flags: [u8; MAX_EDGES]) -> [u8; MAX_EDGES]
+    requires { ⌜ Lawful m ⌝ }
+    requires { ⌜ x < maxClocks ⌝ }
+    ensures { λ r. ⌜ Flagged m r (λ e. opensFor m e x && markedAt flags e) ⌝ }
 {
-    let mut f = flags;
-    if passes {
-        f[e] = 1;
-        return f;
+    let count = m.edges as usize;
+    let mut opens = [0; MAX_EDGES];
+    for e in 0..count {
+        let from = STRIDE * (m.source[e] as usize) + x;
+        let to = STRIDE * (m.target[e] as usize) + x;
+        let kept = keeps_clock(m.reset[e], x as u8);
+        let lets = lets_open(
+            m.lower[STRIDE * e + x],
+            m.invariant[from],
+            m.invariant[to],
+            kept,
+        );
+        opens[e] = as_flag(lets & (flags[e] == 1));
     }
-    f
+    opens
 }
 
 // A flag for each edge that can open alone.
 pub fn open_edges(m: Model) -> [u8; MAX_EDGES]
     requires { ⌜ Lawful m ⌝ }
-    ensures { λ r. ⌜ r ≡ edgeFlags m (opensAlone m) ⌝ }
+    ensures { λ r. ⌜ Flagged m r (opensAlone m) ⌝ }
 {
-    let count = m.edges as usize;
-    let mut flags = [0; MAX_EDGES];
-    for e in 0..count {
-        let f = set_flag(flags, e, opens_alone(m, e));
-        flags = f;
+    let clocks = m.clocks as usize;
+    let mut flags = [1; MAX_EDGES];
+    for x in 0..clocks {
+        let opens = clock_opens(m, x, flags);
+        flags = opens;
     }
     flags
 }

@@ -6,7 +6,7 @@ use mathlib.Core.Path.{_≡_, _∙_}
 use Rattle.model.specs.Each.{someBelow}
 use Rattle.limits.specs.Limits.{maxLocations}
 use Rattle.model.proofs.Each.{some-none, some-more, some-done}
-use Rattle.edge_walks.specs.Cycle.{markedAt}
+use Rattle.edge_walks.specs.Opening.{markedAt}
 use Rattle.edge_walks.proofs.cycle.any_marked.Statement.{statement}
 use Rattle.edge_walks.proofs.cycle.any_marked.Tie as tie
 

@@ -5,7 +5,8 @@ use mathlib.Core.List.{List}
 use Prim.Native.Nat.{ℕ}
 use Rattle.limits.specs.Limits.{maxLocations}
 use Rattle.model.specs.Each.{someBelow}
-use Rattle.edge_walks.specs.Cycle.{markedAt, hasCycle}
+use Rattle.edge_walks.specs.Opening.{markedAt}
+use Rattle.edge_walks.specs.Cycle.{hasCycle}
 use Rattle.edge_walks.proofs.cycle.has_cycle.Statement.{statement}
 use Rattle.edge_walks.proofs.cycle.has_cycle.Tie as tie
 

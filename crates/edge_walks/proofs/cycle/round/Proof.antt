@@ -5,7 +5,8 @@ use Prim.Native.Nat.{_-_, _≤_}
 use mathlib.Core.Path.{_≡_, _∙_}
 use Rattle.model.specs.Each.{each}
 use Rattle.model.proofs.Each.{each-none, each-more, each-done}
-use Rattle.edge_walks.specs.Cycle.{markedAt, markEdge, roundOf}
+use Rattle.edge_walks.specs.Opening.{markedAt}
+use Rattle.edge_walks.specs.Cycle.{markEdge, roundOf}
 use Rattle.edge_walks.proofs.Opens.{ends-below}
 use Rattle.edge_walks.proofs.cycle.round.Statement.{statement}
 use Rattle.edge_walks.proofs.cycle.round.Tie as tie
