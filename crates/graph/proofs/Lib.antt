@@ -1,4 +1,5 @@
 pub mod Plan
+pub mod Masks
 pub mod States
 pub mod Numbers
 pub mod Models

@@ -1,8 +1,8 @@
 -- The limits of a location and of an entry, as three numbers, and how many half values are within them.
 use Prim.Native.Nat.{ℕ, zero, suc, _+_, _*_, _/_, _%_, _^_, _≤_, min}
-use native.Mathlib.Nat.{mul-one, mul-le-mul, pow-zero, pow-succ', div-one, div-div-eq-div-mul}
+use native.Mathlib.Nat.{mul-one, mul-le-mul}
 use mathlib.Core.Path.{_≡_, refl, sym, ap, ap₂, _∙_}
-use mathlib.Core.Bool.{Bool, true, false, cond}
+use mathlib.Core.Bool.{cond}
 use mathlib.Core.List.{List, [], _∷_}
 use lib.Dec.{eqb, ltb}
 use lib.ListN.{take, getD}
@@ -16,40 +16,29 @@ use Rattle.region.proofs.Views.{three}
 use Rattle.model.specs.declared.Model.{Model}
 use Rattle.model.specs.Model.{slot, sourceOf, targetOf, Lawful}
 use Rattle.graph.specs.Plan.{automatonOf, edgeOf}
+use Rattle.graph.proofs.Masks.{reset-mask}
 use Rattle.graph.proofs.States.{clocks-of}
 use Rattle.margin.specs.Limits.{stayLimit, entryLimit}
 
 -- ---- tables
-
-tab-same : (n : ℕ) (f g : ℕ → ℕ) → ((x : ℕ) → f x ≡ g x) → tab n f ≡ tab n g
-unfolding tab
-tab-same zero f g h = refl
-tab-same (suc n) f g h = ap₂ _∷_ (h zero) (tab-same n (λ x. f (suc x)) (λ x. g (suc x)) (λ x. h (suc x)))
 
 -- n of three
 tab-three : (f : ℕ → ℕ) (n : ℕ) → Clocks n → take n (f 0 ∷ f 1 ∷ f 2 ∷ []) ≡ tab n f
 unfolding tab
 tab-three f = three (λ n. take n (f 0 ∷ f 1 ∷ f 2 ∷ []) ≡ tab n f) refl refl refl
 
-reset-first : (b : Bool) (bs : List Bool) (x : ℕ) (xs : List ℕ) → resetValues (b ∷ bs) (x ∷ xs) ≡ cond b 0 x ∷ resetValues bs xs
-reset-first true bs x xs = refl
-reset-first false bs x xs = refl
+lowest-tab : (n : ℕ) (f g : ℕ → ℕ) → lowest (tab n f) (tab n g) ≡ tab n (λ x. min (f x) (g x))
+unfolding tab
+lowest-tab zero f g = refl
+lowest-tab (suc n) f g = ap (λ (l : List ℕ). min (f 0) (g 0) ∷ l) (lowest-tab n (λ x. f (suc x)) (λ x. g (suc x)))
 
 -- the lowest of three limits, 0 where the mask has a bit: clock by clock
 reset-lowest : (n r : ℕ) (f g h : ℕ → ℕ)
     → resetValues (maskBits n r) (lowest (tab n f) (lowest (tab n g) (tab n h)))
     ≡ tab n (λ x. cond (eqb (r / 2 ^ x % 2) 1) 0 (min (f x) (min (g x) (h x))))
-unfolding tab
-reset-lowest zero r f g h = refl
-reset-lowest (suc n) r f g h =
-    let rest = lowest (tab n (λ x. f (suc x))) (lowest (tab n (λ x. g (suc x))) (tab n (λ x. h (suc x)))) in
-    reset-first (eqb (r % 2) 1) (maskBits n (r / 2)) (min (f 0) (min (g 0) (h 0))) rest
-    ∙ ap₂ _∷_ (rw (pow-zero 2, div-one r))
-    (reset-lowest n (r / 2) (λ x. f (suc x)) (λ x. g (suc x)) (λ x. h (suc x))
-    ∙ tab-same n
-    (λ x. cond (eqb (r / 2 / 2 ^ x % 2) 1) 0 (min (f (suc x)) (min (g (suc x)) (h (suc x)))))
-    (λ x. cond (eqb (r / 2 ^ suc x % 2) 1) 0 (min (f (suc x)) (min (g (suc x)) (h (suc x)))))
-    (λ x. rw (pow-succ' 2 x, ← div-div-eq-div-mul r 2 (2 ^ x))))
+reset-lowest n r f g h =
+    ap (λ (l : List ℕ). resetValues (maskBits n r) l) (ap (lowest (tab n f)) (lowest-tab n g h) ∙ lowest-tab n f (λ x. min (g x) (h x)))
+    ∙ reset-mask n r (λ x. min (f x) (min (g x) (h x)))
 
 -- ---- the limit of an entry
 

@@ -1,23 +1,21 @@
 -- Which edges of a model can open alone: by its drawing and by its automaton, and that just these are ever taken.
 use Prim.Native.Nat.{ℕ, zero, suc, _/_, _%_, _^_, _≤_, _<_}
-use native.Mathlib.Nat.{pow-zero, pow-succ', div-div-eq-div-mul, div-one, mod-lt}
+use native.Mathlib.Nat.{mod-lt}
 use native.Mathlib.Omega.{arith}
-use mathlib.Core.Path.{_≡_, refl, sym, ap, subst, _∙_}
+use mathlib.Core.Path.{_≡_, refl, sym, subst, _∙_}
 use mathlib.Core.Bool.{Bool, true, false, not, cond, true≢false}
 use mathlib.Core.Logic.{_↔_}
-use mathlib.Core.List.{List, [], _∷_}
 use lib.Dec.{eqb}
 use lib.ListN.{getD}
 use Rattle.theory.specs.Below.{tab}
 use Rattle.theory.specs.Lists.{from}
 use Rattle.theory.specs.Pointwise.{Each}
-use Rattle.theory.specs.Automaton.{resetValues}
 use Rattle.theory.proofs.Lists.{map-law}
 use Rattle.theory.proofs.Sorted.{from-law}
-use Rattle.region.specs.View.{maskBits}
 use Rattle.model.specs.declared.Model.{Model}
 use Rattle.model.specs.Model.{Lawful, slot, sourceOf, targetOf, lowAt, highAt, limitAt, keeps}
 use Rattle.graph.specs.Plan.{edgeOf, automatonOf}
+use Rattle.graph.proofs.Masks.{bit-at, reset-mask}
 use Rattle.graph.proofs.Plan.{capped}
 use Rattle.robust.specs.Robust.{OpensAlone, JumpsAlong, resetsClock}
 use Rattle.robust.proofs.Opening.{opens-exactly}
@@ -25,20 +23,17 @@ use Rattle.edge_walks.specs.Opening as drawing
 
 -- ---- the reset mask
 
--- bit x of a mask
-bit-at : (n r x : ℕ) → x < n → getD (maskBits n r) x false ≡ eqb (r / 2 ^ x % 2) 1
-bit-at zero r x h = absurd (omega arith)
-bit-at (suc n) r zero h = rw (pow-zero 2, div-one r)
-bit-at (suc n) r (suc x) h = rw (pow-succ' 2 x, ← div-div-eq-div-mul r 2 (2 ^ x)) (bit-at n (r / 2) x (omega arith))
-
 one-or-none : (b : ℕ) → b < 2 → eqb b 1 ≡ not (eqb b 0)
 one-or-none zero h = refl
 one-or-none (suc zero) h = refl
 one-or-none (suc (suc b)) h = absurd (omega arith)
 
+kept-bit : (m : Model) (e x : ℕ) → eqb (getD (m .reset) e 0 / 2 ^ x % 2) 1 ≡ not (keeps m x e)
+kept-bit m e x = one-or-none _ (mod-lt (getD (m .reset) e 0 / 2 ^ x) (omega arith))
+
 -- an edge resets a clock or keeps it
 pub resets-law : (m : Model) (e x : ℕ) → x < m .clocks → resetsClock x (edgeOf m e) ≡ not (keeps m x e)
-resets-law m e x h = bit-at (m .clocks) (getD (m .reset) e 0) x h ∙ one-or-none _ (mod-lt (getD (m .reset) e 0 / 2 ^ x) (omega arith))
+resets-law m e x h = bit-at (m .clocks) (getD (m .reset) e 0) x h ∙ kept-bit m e x
 
 -- ---- entries for each clock, as lists
 
@@ -53,13 +48,6 @@ tab-each zero f g t x l = absurd (omega arith)
 tab-each (suc n) f g (Each.more h hs) zero l = h
 tab-each (suc n) f g (Each.more h hs) (suc x) l = tab-each n (λ x. f (suc x)) (λ x. g (suc x)) hs x (omega arith)
 
-reset-tab : (bs : List Bool) (n : ℕ) (f : ℕ → ℕ) → resetValues bs (tab n f) ≡ tab n (λ x. cond (getD bs x false) 0 (f x))
-unfolding tab
-reset-tab bs zero f = refl
-reset-tab [] (suc n) f = refl
-reset-tab (true ∷ bs) (suc n) f = ap (λ (l : List ℕ). 0 ∷ l) (reset-tab bs n (λ x. f (suc x)))
-reset-tab (false ∷ bs) (suc n) f = ap (λ (l : List ℕ). f 0 ∷ l) (reset-tab bs n (λ x. f (suc x)))
-
 -- ---- by the drawing and by the automaton
 
 -- what is held where it enters, of a clock that is kept
@@ -68,25 +56,24 @@ entered true low limit = (λ h. h refl, λ h _. h)
 entered false low limit = (λ _. omega arith, λ _ e. absurd (true≢false (sym e)))
 
 module _ (m : Model) (e : ℕ) where
-  abbrev bits : List Bool
-  bits = maskBits (m .clocks) (getD (m .reset) e 0)
+  abbrev resets : ℕ → Bool
+  resets x = eqb (getD (m .reset) e 0 / 2 ^ x % 2) 1
 
-  enters-law : (x : ℕ) → x < m .clocks → (keeps m x e ≡ true → lowAt m e x ≤ limitAt m (targetOf m e) x)
-      ↔ (cond (getD bits x false) 0 (lowAt m e x) ≤ limitAt m (targetOf m e) x)
-  enters-law x h =
+  enters-law : (x : ℕ) → (keeps m x e ≡ true → lowAt m e x ≤ limitAt m (targetOf m e) x) ↔ (cond (resets x) 0 (lowAt m e x) ≤ limitAt m (targetOf m e) x)
+  enters-law x =
       subst (λ (b : Bool). (keeps m x e ≡ true → lowAt m e x ≤ limitAt m (targetOf m e) x) ↔ (cond b 0 (lowAt m e x) ≤ limitAt m (targetOf m e) x))
-      (sym (resets-law m e x h)) (entered (keeps m x e) (lowAt m e x) (limitAt m (targetOf m e) x))
+      (sym (kept-bit m e x)) (entered (keeps m x e) (lowAt m e x) (limitAt m (targetOf m e) x))
 
   pub model-opens : drawing.OpensAlone m e ↔ OpensAlone (automatonOf m) (edgeOf m e)
   unfolding automatonOf
   model-opens = (
     λ o. record {
       leaves = each-tab (m .clocks) (lowAt m e) (limitAt m (sourceOf m e)) (o .leaves);
-      enters = rw reset-tab (each-tab (m .clocks) _ (limitAt m (targetOf m e)) (λ x h. enters-law x h .0 (o .enters x h)));
+      enters = rw reset-mask (each-tab (m .clocks) _ (limitAt m (targetOf m e)) (λ x h. enters-law x .0 (o .enters x h)));
     },
     λ o. record {
       leaves = tab-each (m .clocks) (lowAt m e) (limitAt m (sourceOf m e)) (o .leaves);
-      enters = λ x h. enters-law x h .1 (tab-each (m .clocks) _ (limitAt m (targetOf m e)) (rw reset-tab at (o .enters)) x h);
+      enters = λ x h. enters-law x .1 (tab-each (m .clocks) _ (limitAt m (targetOf m e)) (rw reset-mask at (o .enters)) x h);
     },
   )
 

@@ -1,7 +1,7 @@
 -- The numbers of our sheet as they are found and laid.
 use mathlib.Core.Path.{_≡_, refl, sym, ap, _∙_}
 use mathlib.Core.List.{List, [], _∷_, _++_, append-nil}
-use Prim.Native.Nat.{ℕ, zero, suc, _+_, _*_, _/_, _≤_, _<_, suc-le-suc}
+use Prim.Native.Nat.{ℕ, zero, suc, _+_, _*_, _/_, _≤_, _<_}
 use native.Mathlib.Omega.{arith}
 use lib.ListN.{length, getD}
 use lib.Dec.{ltb}
@@ -10,7 +10,7 @@ use Rattle.theory.specs.System.{onClosedWalk}
 use Rattle.theory.specs.Height.{height}
 use Rattle.theory.specs.Sheet.{number, ourSheet}
 use Rattle.theory.specs.StateGraph.{systemOf}
-use Rattle.theory.proofs.Below.{bit-le, tab-length, is-table}
+use Rattle.theory.proofs.Below.{bit-le, tab-length, is-table, tab-same}
 use Rattle.theory.proofs.Levels.{mark-marks}
 use Rattle.theory.proofs.Height.{height-below}
 use Rattle.limits.specs.Limits.{maxStates}
@@ -39,13 +39,6 @@ tab-suc (suc n) f = ap (λ (l : List ℕ). f zero ∷ l) (tab-suc n (λ i. f (su
 
 tab-next : (n : ℕ) (f : ℕ → ℕ) → tab (n + 1) f ≡ tab n f ++ (f n ∷ [])
 tab-next n f = ap (λ (k : ℕ). tab k f) (let e : n + 1 ≡ suc n = omega arith in e) ∙ tab-suc n f
-
-tab-same : (n : ℕ) (f g : ℕ → ℕ) → ((i : ℕ) → i < n → f i ≡ g i) → tab n f ≡ tab n g
-unfolding tab
-tab-same zero f g h = refl
-tab-same (suc n) f g h =
-    ap (λ (x : ℕ). x ∷ tab n (λ i. f (suc i))) (h zero (omega arith))
-    ∙ ap (λ (l : List ℕ). g zero ∷ l) (tab-same n (λ i. f (suc i)) (λ i. g (suc i)) (λ i b. h (suc i) (suc-le-suc b)))
 
 spell-one : (v : ℕ) → spellAll (v ∷ []) ≡ spell v
 unfolding spellAll
