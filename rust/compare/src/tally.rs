@@ -1,5 +1,6 @@
 //! How often each answer came up.
 
+use second::dead_links::{has_dead_edge, is_refused_by_all_edges};
 use second::model::Model;
 use second::refusal::{LAST, NEVER_THERE, OUTPUT_TOO_SHORT, SCRATCH_TOO_SHORT};
 use second::{Harm, Judgement, SheetMargin};
@@ -152,15 +153,12 @@ impl Tally {
         marked.refused += u64::from(other.is_err());
     }
 
-    /// An accepted model by its edges. With every low at 0 all of them can open.
+    /// An accepted model by its edges.
     pub fn edges(&mut self, model: &Model) {
-        if model.edges.iter().all(|edge| model.can_open(edge)) {
-            return;
+        if has_dead_edge(model) {
+            self.shut.count += 1;
+            self.shut.judged_now += u64::from(is_refused_by_all_edges(model));
         }
-        let mut opened = model.clone();
-        opened.edges.iter_mut().for_each(|edge| edge.low.fill(0));
-        self.shut.count += 1;
-        self.shut.judged_now += u64::from(opened.leaves_a_clock_unreset());
     }
 
     pub fn shortened(&mut self, model: &[u8], answer: &Result<Vec<u8>, u8>) {
