@@ -207,23 +207,26 @@ impl Model {
         Ok(())
     }
 
-    /// Whether an edge can open alone: each low is within the limit of the
-    /// location that it leaves and, if the clock is kept, of the one that it
-    /// enters. A high is no less than its low, so that it has no say.
-    pub fn can_open(&self, edge: &Edge) -> bool {
-        let within = |at: usize, clock: usize| edge.low[clock] <= self.locations[at].limit[clock];
-        (0..self.clocks)
-            .all(|clock| within(edge.from, clock) && (!edge.keeps(clock) || within(edge.to, clock)))
+    /// Whether some closed walk of edges that can each open alone leaves some
+    /// clock unreset. Whether a run can take the walk as a whole plays no part.
+    pub fn leaves_a_clock_unreset(&self) -> bool {
+        (0..self.clocks).any(|clock| {
+            let keeping: Vec<&Edge> = self
+                .edges
+                .iter()
+                .filter(|edge| edge.keeps(clock) && self.can_open(edge))
+                .collect();
+            has_cycle(self.locations.len(), &keeping)
+        })
     }
 
-    /// Whether some closed walk of edges that can open leaves some clock
-    /// unreset. No more is asked of the walk: a run may be unable to go it, or
-    /// to get there.
-    pub fn leaves_a_clock_unreset(&self) -> bool {
-        let opening = || self.edges.iter().filter(|edge| self.can_open(edge));
-        (0..self.clocks).any(|clock| {
-            let keeping: Vec<&Edge> = opening().filter(|edge| edge.keeps(clock)).collect();
-            has_cycle(self.locations.len(), &keeping)
+    /// Whether some clock values let a run take this edge, looked at alone.
+    /// Lows are at most highs, so the lows are such values if any are; a clock
+    /// that is reset enters with 0, which every limit allows.
+    pub fn can_open(&self, edge: &Edge) -> bool {
+        (0..self.clocks).all(|clock| {
+            let held = |at: usize| edge.low[clock] <= self.locations[at].limit[clock];
+            held(edge.from) && (!edge.keeps(clock) || held(edge.to))
         })
     }
 }
