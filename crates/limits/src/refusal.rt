@@ -35,3 +35,6 @@ pub const PADDED: u8 = 15;
 
 // 02 (e): there is no such location, or no run gets there.
 pub const UNREACHED: u8 = 16;
+
+// 02 (g): a closed walk that counts has no edge that resets every clock.
+pub const NOT_JOINT: u8 = 17;

@@ -46,8 +46,9 @@ pub mod LoopPlan
 -- Both hypotheses are needed: the rule on resets, and touch.
 pub mod Unreset
 pub mod Untouched
--- Joint resets need no touch.
+-- Joint resets need no touch: on locations and regions, and on numbered states.
 pub mod Joint
+pub mod WithoutTouch
 -- The fringe of a sheet and the walks through it.
 pub mod Fringe
 -- Safe for ever, by a sheet.

@@ -24,6 +24,8 @@ pub mod Replay
 pub mod Least
 -- Evidence and verdict: just one kind.
 pub mod Verdict
+-- 02 (g): without touch steps, marks and trails are among those with them; of trails without touch, ours there is the least.
+pub mod WithoutTouch
 -- Small systems, computed.
 pub mod Examples
 -- ---- clocks

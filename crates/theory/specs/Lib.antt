@@ -22,6 +22,8 @@ pub mod ClosedWalk
 pub mod Labels
 -- Trails by their moves, their replay, and our moves.
 pub mod Replay
+-- 02 (g): a system without its touch steps.
+pub mod WithoutTouch
 -- ---- clocks (01, "Regions", "Steps between allowed states", "A widened run")
 
 -- Tests and ranges of lists; lists compared place by place.
