@@ -2,3 +2,5 @@
 pub mod Calls
 -- Slices that are lent in part and come back as zero.
 pub mod Frames
+-- Refusal 17.
+pub mod Joint

@@ -4,3 +4,5 @@
 pub mod Call
 -- The four scratch slices: as lent, and as left.
 pub mod Scratch
+-- 02 (g): refusal 17.
+pub mod Joint

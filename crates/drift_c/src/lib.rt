@@ -13,6 +13,9 @@ ghost use Rattle.op_sheet_margin.specs.SheetMargin.{sheetMarginAnswer, boundAns
 ghost use Rattle.op_harm.specs.Harm.{harmAnswer, onsetAnswer};
 ghost use Rattle.op_soonest.specs.Sounding.{soonestAnswer, arrivalAnswer};
 ghost use Rattle.op_write.specs.Write.{writeAnswer, writeOutput, writtenAnswer};
+ghost use Rattle.op_judge_joint.specs.JudgeJoint.{jointJudged};
+ghost use Rattle.op_marks_joint.specs.MarksJoint.{jointMarked, jointOutput};
+ghost use Rattle.op_write_joint.specs.WriteJoint.{jointWriteAnswer, jointWriteOutput};
 ghost use Rattle.number.specs.Shortest.{readSpelled, numberIn};
 ghost use Rattle.spelling.specs.Calls.{storedAnswer};
 ghost use Rattle.drift_c.specs.Words.{judgeWord, countWord, checkWord, writeWord, numberWord, marginWord, harmWord, harmOut, maxField, Fields, StatesFit, BytesFit, StoredFit, SmallValue};
@@ -274,6 +277,81 @@ pub extern "C" fn drift_write_evidence(
         ⌝ }
 {
     let answer = drift::write_evidence(model, s1, s2, s3, s4, out);
+    write_word(answer)
+}
+
+// number + 2^8 · verdict (0 safe, 1 unsafe) + 2^16 · S + 2^40 · count
+#[no_mangle]
+pub extern "C" fn drift_judge_joint(
+    model: &[u8],
+    s1: &mut [Word],
+    s2: &mut [Word],
+    s3: &mut [Word],
+    s4: &mut [Word],
+) -> u64
+    ensures { λ r. ⌜
+        r ≡ judgeWord (jointJudged (now (model .entry)) (lengths (now (s1 .entry)) (now (s2 .entry)) (now (s3 .entry)) (now (s4 .entry))))
+        ⌝ }
+    ensures { λ _. ⌜
+        ScratchLeft (now (model .entry)) (now (s1 .entry)) (now (s2 .entry)) (now (s3 .entry)) (now (s4 .entry))
+        (now (s1 .exit)) (now (s2 .exit)) (now (s3 .exit)) (now (s4 .exit))
+        ⌝ }
+{
+    let answer = drift::judge_joint(model, s1, s2, s3, s4);
+    judge_word(answer)
+}
+
+// number + 2^16 · S
+#[no_mangle]
+pub extern "C" fn drift_marks_joint(
+    model: &[u8],
+    s1: &mut [Word],
+    s2: &mut [Word],
+    s3: &mut [Word],
+    s4: &mut [Word],
+    out: &mut [u8],
+) -> u64
+    ensures { λ r. ⌜
+        r ≡ countWord (jointMarked (now (model .entry)) (lengths (now (s1 .entry)) (now (s2 .entry)) (now (s3 .entry)) (now (s4 .entry)))
+        (length (now (out .entry))))
+        ⌝ }
+    ensures { λ _. ⌜
+        now (out .exit)
+        ≡ jointOutput (now (model .entry)) (lengths (now (s1 .entry)) (now (s2 .entry)) (now (s3 .entry)) (now (s4 .entry))) (now (out .entry))
+        ⌝ }
+    ensures { λ _. ⌜
+        ScratchLeft (now (model .entry)) (now (s1 .entry)) (now (s2 .entry)) (now (s3 .entry)) (now (s4 .entry))
+        (now (s1 .exit)) (now (s2 .exit)) (now (s3 .exit)) (now (s4 .exit))
+        ⌝ }
+{
+    let answer = drift::marks_joint(model, s1, s2, s3, s4, out);
+    marks_word(answer)
+}
+
+// number + 2^8 · verdict (0 safe, 1 unsafe) + 2^16 · bytes
+#[no_mangle]
+pub extern "C" fn drift_write_joint(
+    model: &[u8],
+    s1: &mut [Word],
+    s2: &mut [Word],
+    s3: &mut [Word],
+    s4: &mut [Word],
+    out: &mut [u8],
+) -> u64
+    ensures { λ r. ⌜
+        r ≡ writeWord (jointWriteAnswer (now (model .entry)) (lengths (now (s1 .entry)) (now (s2 .entry)) (now (s3 .entry)) (now (s4 .entry)))
+        (length (now (out .entry))))
+        ⌝ }
+    ensures { λ _. ⌜
+        now (out .exit)
+        ≡ jointWriteOutput (now (model .entry)) (lengths (now (s1 .entry)) (now (s2 .entry)) (now (s3 .entry)) (now (s4 .entry))) (now (out .entry))
+        ⌝ }
+    ensures { λ _. ⌜
+        ScratchLeft (now (model .entry)) (now (s1 .entry)) (now (s2 .entry)) (now (s3 .entry)) (now (s4 .entry))
+        (now (s1 .exit)) (now (s2 .exit)) (now (s3 .exit)) (now (s4 .exit))
+        ⌝ }
+{
+    let answer = drift::write_joint(model, s1, s2, s3, s4, out);
     write_word(answer)
 }
 

@@ -1,6 +1,7 @@
 // The judge: the verdict on a plan.
 
 ghost use mathlib.Core.Path.{_≡_};
+ghost use Rattle.theory.specs.WithoutTouch.{withTouch};
 ghost use Rattle.number.specs.Answer.{answer};
 ghost use Rattle.model.specs.Model.{Lawful};
 ghost use Rattle.graph.specs.Plan.{systemOfModel};
@@ -18,10 +19,10 @@ pub enum Judgement {
     Refused(u8),
 }
 
-// The verdict from the distances of all states.
-fn verdict_of(m: Model, distances: &[Word]) -> Judgement
-    requires { ⌜ Lawful m × Distances (systemOfModel m) (now distances) ⌝ }
-    ensures { λ r. ⌜ judgementAnswer r ≡ answer 0 (verdict (systemOfModel m)) ⌝ }
+// The verdict from the distances of all states. Whether they are with touch steps is for the contract; no code reads it here.
+fn verdict_of(m: Model, touch: bool, distances: &[Word]) -> Judgement
+    requires { ⌜ Lawful m × Distances (withTouch touch (systemOfModel m)) (now distances) ⌝ }
+    ensures { λ r. ⌜ judgementAnswer r ≡ answer 0 (verdict (withTouch touch (systemOfModel m))) ⌝ }
 {
     let s = distances.len();
     let kind = m.kind;
@@ -36,20 +37,21 @@ fn verdict_of(m: Model, distances: &[Word]) -> Judgement
     Judgement::Safe(s, marking::count_marked(distances))
 }
 
-// With slices of just S numbers, which are zero afterwards.
-fn judge_model(
+// With slices of just S numbers, which are zero afterwards: the verdict of the system with touch steps or, for 02 (g), without.
+pub fn judge_model(
     m: Model,
+    touch: bool,
     s1: &mut [Word],
     s2: &mut [Word],
     s3: &mut [Word],
     s4: &mut [Word],
 ) -> Judgement
     requires { ⌜ Lawful m × Scratch (states m) (now s1) (now s2) (now s3) (now s4) ⌝ }
-    ensures { λ r. ⌜ judgementAnswer r ≡ answer 0 (verdict (systemOfModel m)) ⌝ }
+    ensures { λ r. ⌜ judgementAnswer r ≡ answer 0 (verdict (withTouch touch (systemOfModel m))) ⌝ }
     ensures { λ _. ⌜ Zeroed (states m) (now (s1 .exit)) (now (s2 .exit)) (now (s3 .exit)) (now (s4 .exit)) ⌝ }
 {
-    survey::survey(m, s1, s2, s3, s4);
-    let found = verdict_of(m, s2);
+    survey::survey(m, touch, s1, s2, s3, s4);
+    let found = verdict_of(m, touch, s2);
     call::clear_all(s1, s2, s3, s4);
     found
 }
@@ -75,5 +77,12 @@ pub fn judge(
     }
     let m = admitted.model;
     let s = admitted.states;
-    judge_model(m, &mut s1[..s], &mut s2[..s], &mut s3[..s], &mut s4[..s])
+    judge_model(
+        m,
+        true,
+        &mut s1[..s],
+        &mut s2[..s],
+        &mut s3[..s],
+        &mut s4[..s],
+    )
 }

@@ -31,12 +31,12 @@ unfoldable pub marksOf : System → List ℕ
 marksOf Y = tab (Y .size) (λ p. bit (marks Y p))
 
 -- the marks in an output that is long enough; a shorter one is untouched
-unfoldable pub marksIn : Model → List ℕ → List ℕ
-marksIn m out = cond (ltb (length out) (states m)) out (marksOf (systemOfModel m) ++ drop (states m) out)
+unfoldable pub marksIn : System → List ℕ → List ℕ
+marksIn Y out = cond (ltb (length out) (Y .size)) out (marksOf Y ++ drop (Y .size) out)
 
 -- "Output is untouched on refusal; on success only .. the S marks .. change"
 unfoldable pub output : List ℕ → List ℕ → List ℕ → List ℕ
-output bytes lent out = cond (eqb (refusal bytes lent) 0) (marksIn (modelOf bytes) out) out
+output bytes lent out = cond (eqb (refusal bytes lent) 0) (marksIn (systemOfModel (modelOf bytes)) out) out
 
 -- 01's number and values for each case
 unfoldable pub markingAnswer : Marking → Answer

@@ -4,6 +4,7 @@ ghost use mathlib.Core.Path.{_≡_};
 ghost use mathlib.Core.List.{[], _∷_};
 ghost use lib.ListN.{length};
 ghost use Rattle.theory.specs.Below.{bit};
+ghost use Rattle.theory.specs.WithoutTouch.{withTouch};
 ghost use Rattle.number.specs.Answer.{answer};
 ghost use Rattle.model.specs.Model.{Lawful};
 ghost use Rattle.graph.specs.Plan.{systemOfModel};
@@ -27,10 +28,10 @@ fn flag(b: bool) -> u8
     if b { 1 } else { 0 }
 }
 
-// A mark for each state from its distance.
-fn put_marks(m: Model, distances: &[Word], out: &mut [u8])
-    requires { ⌜ Lawful m × Distances (systemOfModel m) (now distances) × (length (now out) ≡ states m) ⌝ }
-    ensures { λ _. ⌜ now (out .exit) ≡ marksOf (systemOfModel m) ⌝ }
+// A mark for each state from its distance. Whether that is with touch steps is for the contract; no code reads it here.
+fn put_marks(m: Model, touch: bool, distances: &[Word], out: &mut [u8])
+    requires { ⌜ Lawful m × Distances (withTouch touch (systemOfModel m)) (now distances) × (length (now out) ≡ states m) ⌝ }
+    ensures { λ _. ⌜ now (out .exit) ≡ marksOf (withTouch touch (systemOfModel m)) ⌝ }
 {
     let mut p = 0;
     while p < distances.len() {
@@ -42,6 +43,7 @@ fn put_marks(m: Model, distances: &[Word], out: &mut [u8])
 // With slices of just S numbers, which are zero afterwards, and an output of just S bytes.
 fn mark_model(
     m: Model,
+    touch: bool,
     s1: &mut [Word],
     s2: &mut [Word],
     s3: &mut [Word],
@@ -50,17 +52,18 @@ fn mark_model(
 )
     requires { ⌜ Lawful m × Scratch (states m) (now s1) (now s2) (now s3) (now s4) ⌝ }
     requires { ⌜ length (now out) ≡ states m ⌝ }
-    ensures { λ _. ⌜ now (out .exit) ≡ marksOf (systemOfModel m) ⌝ }
+    ensures { λ _. ⌜ now (out .exit) ≡ marksOf (withTouch touch (systemOfModel m)) ⌝ }
     ensures { λ _. ⌜ Zeroed (states m) (now (s1 .exit)) (now (s2 .exit)) (now (s3 .exit)) (now (s4 .exit)) ⌝ }
 {
-    survey::survey(m, s1, s2, s3, s4);
-    put_marks(m, s2, out);
+    survey::survey(m, touch, s1, s2, s3, s4);
+    put_marks(m, touch, s2, out);
     call::clear_all(s1, s2, s3, s4);
 }
 
-// The same with an output of any length: 9 where it is too short.
-fn mark_into(
+// The same with an output of any length: 9 where it is too short. The marks are of the system with touch steps or, for 02 (g), without.
+pub fn mark_into(
     m: Model,
+    touch: bool,
     s1: &mut [Word],
     s2: &mut [Word],
     s3: &mut [Word],
@@ -69,7 +72,7 @@ fn mark_into(
 ) -> Marking
     requires { ⌜ Lawful m × Scratch (states m) (now s1) (now s2) (now s3) (now s4) ⌝ }
     ensures { λ r. ⌜ markingAnswer r ≡ answer (short (length (now (out .entry))) m) (states m ∷ []) ⌝ }
-    ensures { λ _. ⌜ now (out .exit) ≡ marksIn m (now (out .entry)) ⌝ }
+    ensures { λ _. ⌜ now (out .exit) ≡ marksIn (withTouch touch (systemOfModel m)) (now (out .entry)) ⌝ }
     ensures { λ _. ⌜ Zeroed (states m) (now (s1 .exit)) (now (s2 .exit)) (now (s3 .exit)) (now (s4 .exit)) ⌝ }
 {
     let s = s1.len();
@@ -77,7 +80,7 @@ fn mark_into(
         call::clear_all(s1, s2, s3, s4);
         return Marking::Refused(OUTPUT_SHORT);
     }
-    mark_model(m, s1, s2, s3, s4, &mut out[..s]);
+    mark_model(m, touch, s1, s2, s3, s4, &mut out[..s]);
     Marking::Marked(s)
 }
 
@@ -107,6 +110,7 @@ pub fn marks(
     let s = admitted.states;
     mark_into(
         m,
+        true,
         &mut s1[..s],
         &mut s2[..s],
         &mut s3[..s],

@@ -4,16 +4,18 @@ ghost use mathlib.Core.Path.{_≡_};
 ghost use lib.ListN.{length};
 ghost use Rattle.model.specs.Model.{Lawful};
 ghost use Rattle.graph.specs.States.{states};
-ghost use Rattle.evidence_writer.specs.Written.{evidenceIn, writtenFor};
+ghost use Rattle.spelling.specs.Lays.{filled};
+ghost use Rattle.evidence_writer.specs.Written.{evidenceBy, writtenBy};
 ghost use Rattle.call.specs.Scratch.{lengths, Scratch, Zeroed, ScratchLeft};
 ghost use Rattle.op_write.specs.Write.{writeAnswer, writeOutput, writtenAnswer};
 pub use evidence_writer::Written;
 use limits::Word;
 use model::Model;
 
-// With slices of just S numbers, which are zero afterwards.
-fn write_model(
+// With slices of just S numbers, which are zero afterwards: the evidence of the system with touch steps or, for 02 (g), without.
+pub fn write_model(
     m: Model,
+    touch: bool,
     s1: &mut [Word],
     s2: &mut [Word],
     s3: &mut [Word],
@@ -21,10 +23,12 @@ fn write_model(
     out: &mut [u8],
 ) -> Written
     requires { ⌜ Lawful m × Scratch (states m) (now s1) (now s2) (now s3) (now s4) ⌝ }
-    ensures { λ r. ⌜ (r ≡ writtenFor m (length (now (out .entry)))) × (now (out .exit) ≡ evidenceIn m (now (out .entry))) ⌝ }
+    ensures { λ r. ⌜
+        (r ≡ writtenBy touch m (length (now (out .entry)))) × (now (out .exit) ≡ filled (evidenceBy touch m) (now (out .entry)))
+        ⌝ }
     ensures { λ _. ⌜ Zeroed (states m) (now (s1 .exit)) (now (s2 .exit)) (now (s3 .exit)) (now (s4 .exit)) ⌝ }
 {
-    let found = evidence_writer::write(m, s1, s2, s3, s4, out);
+    let found = evidence_writer::write(m, touch, s1, s2, s3, s4, out);
     call::clear_all(s1, s2, s3, s4);
     found
 }
@@ -54,6 +58,7 @@ pub fn write_evidence(
     let s = admitted.states;
     write_model(
         m,
+        true,
         &mut s1[..s],
         &mut s2[..s],
         &mut s3[..s],

@@ -2,6 +2,7 @@
 -- verdict and sheet of the system without touch are those of the system with it.
 use Prim.Native.Nat.{ℕ, _<_}
 use mathlib.Core.Path.{_≡_, subst}
+use mathlib.Core.Bool.{false}
 use mathlib.Core.Logic.{_↔_}
 use Rattle.theory.specs.System.{System, Laws}
 use Rattle.theory.specs.Marked.{MarkedIn, begin, onward, by-flow, by-face, marks, unsafe}
@@ -44,27 +45,27 @@ module _ (m : Automaton) (locations : ℕ) (W : Within m locations) (kept : Capp
       λ c.
           let u = joint-marked kept joint (locationOf m p) (regionOf m p) .0 (marked-law m locations W kept p h .0 c) in
           subst (λ n. MarkedIn (withoutTouch Y) n) (number-of-parts m locations p h) (untouched-numbers u .2),
-      touch-marked _ Y laws,
+      touch-marked false Y laws,
     )
 
     pub joint-marks : (p : ℕ) → p < stateCount m locations → marks (withoutTouch Y) p ≡ marks Y p
     joint-marks p h =
         bool-ext (marks (withoutTouch Y) p) (marks Y p)
-        (λ t. is-marks Y laws p (joint-states p h .1 (marks-is (withoutTouch Y) (touch-laws _ Y laws) p t)))
-        (λ t. is-marks (withoutTouch Y) (touch-laws _ Y laws) p (joint-states p h .0 (marks-is Y laws p t)))
+        (λ t. is-marks Y laws p (joint-states p h .1 (marks-is (withoutTouch Y) (touch-laws false Y laws) p t)))
+        (λ t. is-marks (withoutTouch Y) (touch-laws false Y laws) p (joint-states p h .0 (marks-is Y laws p t)))
 
     pub joint-verdict : unsafe (withoutTouch Y) ≡ unsafe Y
     unfolding withTouch systemOf
     joint-verdict =
         bool-ext (unsafe (withoutTouch Y)) (unsafe Y)
-        (λ t. let (s, c, x) = unsafe-is (withoutTouch Y) (touch-laws _ Y laws) t in is-unsafe Y laws (s, touch-marked _ Y laws c, x))
+        (λ t. let (s, c, x) = unsafe-is (withoutTouch Y) (touch-laws false Y laws) t in is-unsafe Y laws (s, touch-marked false Y laws c, x))
         (λ t.
             let (s, c, x) = unsafe-is Y laws t in
             let b = laws .allowed-below s (marked-allowed Y laws c) in
-            is-unsafe (withoutTouch Y) (touch-laws _ Y laws) (s, joint-states s b .0 c, x))
+            is-unsafe (withoutTouch Y) (touch-laws false Y laws) (s, joint-states s b .0 c, x))
 
     pub joint-sheet : ourSheet (withoutTouch Y) ≡ ourSheet Y
     unfolding ourSheet number withTouch systemOf
     joint-sheet =
         tab-same (stateCount m locations) (number (withoutTouch Y)) (number Y)
-        (λ p b. rw (touch-height _ Y laws p b, joint-marks p b))
+        (λ p b. rw (touch-height false Y laws p b, joint-marks p b))

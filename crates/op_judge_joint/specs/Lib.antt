@@ -1,0 +1,2 @@
+-- The quicker judge.
+pub mod JudgeJoint

@@ -1,0 +1,2 @@
+-- The marks of the quicker judge.
+pub mod MarksJoint

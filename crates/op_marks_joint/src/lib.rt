@@ -1,0 +1,70 @@
+// The marks of the quicker judge, for plans with a joint reset: those of the system without touch steps.
+
+ghost use mathlib.Core.Path.{_≡_};
+ghost use mathlib.Core.List.{[], _∷_};
+ghost use lib.ListN.{length};
+ghost use Rattle.number.specs.Answer.{answer};
+ghost use Rattle.model.specs.Model.{Lawful};
+ghost use Rattle.graph.specs.States.{states};
+ghost use Rattle.call.specs.Scratch.{lengths, Scratch, Zeroed, ScratchLeft};
+ghost use Rattle.op_marks.specs.Marks.{markingAnswer};
+ghost use Rattle.op_marks_joint.specs.MarksJoint.{disjointOrShort, jointMarksIn, jointMarked, jointOutput};
+use limits::Word;
+use limits::refusal::NOT_JOINT;
+use model::Model;
+use op_marks::Marking;
+
+// With slices of just S numbers, which are zero afterwards.
+fn mark_joint_model(
+    m: Model,
+    s1: &mut [Word],
+    s2: &mut [Word],
+    s3: &mut [Word],
+    s4: &mut [Word],
+    out: &mut [u8],
+) -> Marking
+    requires { ⌜ Lawful m × Scratch (states m) (now s1) (now s2) (now s3) (now s4) ⌝ }
+    ensures { λ r. ⌜ markingAnswer r ≡ answer (disjointOrShort (length (now (out .entry))) m) (states m ∷ []) ⌝ }
+    ensures { λ _. ⌜ now (out .exit) ≡ jointMarksIn m (now (out .entry)) ⌝ }
+    ensures { λ _. ⌜ Zeroed (states m) (now (s1 .exit)) (now (s2 .exit)) (now (s3 .exit)) (now (s4 .exit)) ⌝ }
+{
+    if edge_walks::lacks_joint_reset(m) {
+        call::clear_all(s1, s2, s3, s4);
+        return Marking::Refused(NOT_JOINT);
+    }
+    op_marks::mark_into(m, false, s1, s2, s3, s4, out)
+}
+
+// 02 (g): the marks, as 01's call leaves them, of a plan in which each closed walk that counts has an edge that resets every clock; or a refusal, 1 to
+// 8, then 17 for any other plan, then 9.
+pub fn marks_joint(
+    bytes: &[u8],
+    s1: &mut [Word],
+    s2: &mut [Word],
+    s3: &mut [Word],
+    s4: &mut [Word],
+    out: &mut [u8],
+) -> Marking
+    ensures { λ r. ⌜ markingAnswer r ≡ jointMarked (now (bytes .entry)) (lengths (now (s1 .entry)) (now (s2 .entry)) (now (s3 .entry)) (now (s4 .entry))) (length (now (out .entry))) ⌝ }
+    ensures { λ _. ⌜ now (out .exit) ≡ jointOutput (now (bytes .entry)) (lengths (now (s1 .entry)) (now (s2 .entry)) (now (s3 .entry)) (now (s4 .entry))) (now (out .entry)) ⌝ }
+    ensures { λ _. ⌜
+        ScratchLeft (now (bytes .entry)) (now (s1 .entry)) (now (s2 .entry)) (now (s3 .entry)) (now (s4 .entry))
+        (now (s1 .exit)) (now (s2 .exit)) (now (s3 .exit)) (now (s4 .exit))
+        ⌝ }
+{
+    let admitted = call::admit(bytes, s1.len(), s2.len(), s3.len(), s4.len());
+    let refusal = admitted.refusal;
+    if refusal != 0 {
+        return Marking::Refused(refusal);
+    }
+    let m = admitted.model;
+    let s = admitted.states;
+    mark_joint_model(
+        m,
+        &mut s1[..s],
+        &mut s2[..s],
+        &mut s3[..s],
+        &mut s4[..s],
+        out,
+    )
+}

@@ -1,0 +1,2 @@
+-- The evidence of the quicker judge.
+pub mod WriteJoint
