@@ -61,7 +61,8 @@ enum drift_number {
     DRIFT_BAD_STEP = 13,           /* a trail step doesn't replay */
     DRIFT_ENDS_ORDINARY = 14,      /* trail ends in an ordinary location */
     DRIFT_PADDED = 15,             /* evidence number not in shortest form */
-    DRIFT_UNREACHED = 16           /* no such location, or no run gets there */
+    DRIFT_UNREACHED = 16,          /* no such location, or no run gets there */
+    DRIFT_NOT_JOINT = 17           /* a walk of edges that can open has none that resets every clock */
 };
 
 /* What passed the check of evidence. */
@@ -102,6 +103,42 @@ uint64_t drift_marks(
  * The answer: number + 2^8 * verdict (0 safe, 1 unsafe) + 2^16 * bytes
  * written. See drift_is_unsafe, drift_written. */
 uint64_t drift_write_evidence(
+    const uint8_t *model, size_t model_length,
+    drift_word *s1, size_t s1_length,
+    drift_word *s2, size_t s2_length,
+    drift_word *s3, size_t s3_length,
+    drift_word *s4, size_t s4_length,
+    uint8_t *out, size_t out_length);
+
+/* The judge, the marks and the evidence writer for plans with a joint reset,
+ * and quicker: in such a plan each closed walk of edges that can open has an
+ * edge that resets every clock. The three do without touch steps. Verdict, S,
+ * marks, in-states and sheet are those of drift_judge, drift_marks and
+ * drift_write_evidence. A trail has no touch, has the fewest steps of all that
+ * pass without one, and passes the check; the count of an unsafe plan is its
+ * steps, which may be more than drift_judge tells.
+ *
+ * Refusals 1 to 8; then 17 for any other plan, which leaves the scratch's first
+ * S at zero like an answer; 9, of the last two, comes after it. Who is refused
+ * by 17 asks drift_judge and its like. With one clock 17 never comes.
+ *
+ * The answers are made as theirs. */
+uint64_t drift_judge_joint(
+    const uint8_t *model, size_t model_length,
+    drift_word *s1, size_t s1_length,
+    drift_word *s2, size_t s2_length,
+    drift_word *s3, size_t s3_length,
+    drift_word *s4, size_t s4_length);
+
+uint64_t drift_marks_joint(
+    const uint8_t *model, size_t model_length,
+    drift_word *s1, size_t s1_length,
+    drift_word *s2, size_t s2_length,
+    drift_word *s3, size_t s3_length,
+    drift_word *s4, size_t s4_length,
+    uint8_t *out, size_t out_length);
+
+uint64_t drift_write_joint(
     const uint8_t *model, size_t model_length,
     drift_word *s1, size_t s1_length,
     drift_word *s2, size_t s2_length,
@@ -213,8 +250,8 @@ static inline unsigned drift_number_of(uint64_t answer)
     return (unsigned)(answer & 0xff);
 }
 
-/* Of drift_judge, drift_write_evidence, drift_sheet_margin and drift_harm: 1
- * if unsafe, 0 if safe. */
+/* Of drift_judge, drift_write_evidence and their joint forms, drift_sheet_margin
+ * and drift_harm: 1 if unsafe, 0 if safe. */
 static inline int drift_is_unsafe(uint64_t answer)
 {
     return (answer >> 8 & 0xff) == 1;
@@ -226,19 +263,22 @@ static inline uint32_t drift_margin_of(uint64_t answer)
     return (uint32_t)(answer >> 40);
 }
 
-/* Of all that tell it (drift_judge, drift_marks, the margins, drift_harm): S. */
+/* Of all that tell it (drift_judge, drift_marks and their joint forms, the
+ * margins, drift_harm): S. */
 static inline size_t drift_states(uint64_t answer)
 {
     return (size_t)(answer >> 16 & 0xffffff);
 }
 
-/* Of drift_judge: the in-states if safe, the steps of our trail if unsafe. */
+/* Of drift_judge and drift_judge_joint: the in-states if safe, the steps of our
+ * trail if unsafe. */
 static inline size_t drift_count(uint64_t answer)
 {
     return (size_t)(answer >> 40);
 }
 
-/* Of drift_write_evidence and drift_write_plan: the number of bytes written. */
+/* Of drift_write_evidence, drift_write_joint and drift_write_plan: the number of
+ * bytes written. */
 static inline size_t drift_written(uint64_t answer)
 {
     return (size_t)(answer >> 16);

@@ -40,6 +40,7 @@ use Rattle.evidence.proofs.Answers.{sheet-passes, trail-passes, refusal-above}
 use Rattle.evidence.proofs.Ours.{our-sheet, our-trail}
 use Rattle.evidence_writer.specs.Written.{evidenceIn, verdictWith, writtenFor}
 use Rattle.number.specs.Answer.{Answer}
+use Rattle.spelling.specs.Lays.{filled}
 use Rattle.call.specs.Call.{modelOf, refusal}
 use Rattle.op_check.specs.Check.{evidenceAnswer, checkAnswer}
 use Rattle.op_write.specs.Write.{writtenAnswer, writeAnswer, writeOutput}
@@ -187,52 +188,76 @@ module _ (bytes lent : List ℕ) (taken : refusal bytes lent ≡ 0) where
 
 -- ---- "what we write passes"
 
+-- what is told and left of evidence that is written where there is room for it
+module _ (bad : Bool) (ours out : List ℕ) where
+  pub told-fits : length ours ≤ length out
+      → (writtenAnswer (verdictWith bad (length ours) (length out)) ≡ record { number = 0; values = bit bad ∷ length ours ∷ [] })
+      × (filled ours out ≡ ours ++ drop (length ours) out)
+  unfolding writtenAnswer verdictWith
+  told-fits h = (
+    simp (le-ltb (length out) (length ours) h) (by bad),
+    simp (le-ltb (length out) (length ours) h) refl,
+  )
+    where
+      by : (b : Bool) → writtenAnswer (cond b (written.Unsafe (length ours)) (written.Safe (length ours))) ≡ record { number = 0; values = bit b ∷ length ours ∷ [] }
+      by true = refl
+      by false = refl
+
+  pub told-short : length out < length ours
+      → (writtenAnswer (verdictWith bad (length ours) (length out)) ≡ record { number = 9; values = [] }) × (filled ours out ≡ out)
+  unfolding writtenAnswer verdictWith
+  told-short h = (simp (lt-ltb (length out) (length ours) h) refl, simp (lt-ltb (length out) (length ours) h) refl)
+
+  -- as many first bytes as are told pass where the evidence does
+  pub told-passes : (check : List ℕ → Answer) (a : Answer) (left : List ℕ) → a ≡ writtenAnswer (verdictWith bad (length ours) (length out))
+      → left ≡ filled ours out → check ours ≡ kindAnswer (cond bad 2 1) → a .number ≡ 0
+      → check (take (getD (a .values) 1 0) left) ≡ kindAnswer (getD (a .values) 0 0 + 1)
+  told-passes check a left is fill passes z = by (decLt (length out) (length ours))
+    where
+      kind : (b : Bool) → cond b 2 1 ≡ bit b + 1
+      kind true = refl
+      kind false = refl
+
+      by : Dec (length out < length ours) → check (take (getD (a .values) 1 0) left) ≡ kindAnswer (getD (a .values) 0 0 + 1)
+      by (yes h) = absurd (omega (arith, z, ap (λ (x : Answer). x .number) (is ∙ told-short h .0)))
+      by (no h) =
+          let (t, o) = told-fits (omega arith) in
+          rw (is ∙ t, fill ∙ o, take-append-seam ours (drop (length ours) out)) (passes ∙ ap kindAnswer (kind bad))
+
 module _ (bytes lent out : List ℕ) where
   abbrev ours : List ℕ
   ours = ourEvidence (modelOf bytes)
+
+  abbrev bad : Bool
+  bad = unsafe (systemOfModel (modelOf bytes))
+
+  told : refusal bytes lent ≡ 0 → writeAnswer bytes lent (length out) ≡ writtenAnswer (verdictWith bad (length ours) (length out))
+  unfolding writtenFor
+  told taken = write-done bytes lent taken (length out)
+
+  left : refusal bytes lent ≡ 0 → writeOutput bytes lent out ≡ filled ours out
+  unfolding evidenceIn
+  left taken = write-output bytes lent taken out
 
   -- with room for it, the writer answers the verdict and the length of our evidence, which fills the output from its first byte
   pub writes : refusal bytes lent ≡ 0 → length ours ≤ length out
       → (writeAnswer bytes lent (length out) ≡ record { number = 0; values = bit (unsafe (systemOfModel (modelOf bytes))) ∷ length ours ∷ [] })
       × (writeOutput bytes lent out ≡ ours ++ drop (length ours) out)
-  unfolding writtenAnswer writtenFor verdictWith evidenceIn
-  writes taken h = (
-    write-done bytes lent taken (length out) ∙ simp (le-ltb (length out) (length ours) h) (by (unsafe (systemOfModel (modelOf bytes)))),
-    write-output bytes lent taken out ∙ simp (le-ltb (length out) (length ours) h) refl,
-  )
-    where
-      by : (bad : Bool) → writtenAnswer (cond bad (written.Unsafe (length ours)) (written.Safe (length ours))) ≡ record { number = 0; values = bit bad ∷ length ours ∷ [] }
-      by true = refl
-      by false = refl
+  writes taken h = let (t, o) = told-fits bad ours out h in (told taken ∙ t, left taken ∙ o)
 
   -- 9 where there is no room for it, and the output stays as it was
   pub writes-nothing : refusal bytes lent ≡ 0 → length out < length ours
       → (writeAnswer bytes lent (length out) ≡ record { number = 9; values = [] }) × (writeOutput bytes lent out ≡ out)
-  unfolding writtenAnswer writtenFor verdictWith evidenceIn
-  writes-nothing taken h = (
-    write-done bytes lent taken (length out) ∙ simp (lt-ltb (length out) (length ours) h) refl,
-    write-output bytes lent taken out ∙ simp (lt-ltb (length out) (length ours) h) refl,
-  )
+  writes-nothing taken h = let (t, o) = told-short bad ours out h in (told taken ∙ t, left taken ∙ o)
 
   -- Where the writer returns 0, with a verdict (0 safe, 1 unsafe) and a number of bytes, as many first bytes of the output pass the check: a sheet where the
   -- verdict is safe, a trail where it is unsafe; whatever the output and the scratch held before, and whichever scratch the check is lent.
   pub written-passes : (lent′ : List ℕ) → refusal bytes lent ≡ 0 → refusal bytes lent′ ≡ 0 → writeAnswer bytes lent (length out) .number ≡ 0
       → checkAnswer bytes (take (getD (writeAnswer bytes lent (length out) .values) 1 0) (writeOutput bytes lent out)) lent′
       ≡ kindAnswer (getD (writeAnswer bytes lent (length out) .values) 0 0 + 1)
-  written-passes lent′ taken taken′ z = by (decLt (length out) (length ours))
-    where
-      kind : (bad : Bool) → cond bad 2 1 ≡ bit bad + 1
-      kind true = refl
-      kind false = refl
-
-      by : Dec (length out < length ours)
-          → checkAnswer bytes (take (getD (writeAnswer bytes lent (length out) .values) 1 0) (writeOutput bytes lent out)) lent′
-          ≡ kindAnswer (getD (writeAnswer bytes lent (length out) .values) 0 0 + 1)
-      by (yes h) = absurd (omega (arith, z, ap (λ (a : Answer). a .number) (writes-nothing taken h .0)))
-      by (no h) =
-          let (a, o) = writes taken (omega arith) in
-          rw (a, o, take-append-seam ours (drop (length ours) out))
-          (ours-kind bytes lent′ taken′ ∙ ap kindAnswer (kind (unsafe (systemOfModel (modelOf bytes)))))
+  written-passes lent′ taken taken′ z =
+      told-passes bad ours out (λ shown. checkAnswer bytes shown lent′) (writeAnswer bytes lent (length out)) (writeOutput bytes lent out)
+      (told taken) (left taken) (ours-kind bytes lent′ taken′) z
 
 -- "e = 10 isn't": the condition fails, and `Tight.not-covered` has a plan, a passing sheet and a run at equality
 pub ten-is-not : (9 + 1) * 10 < 100 → ⊥

@@ -30,5 +30,8 @@ pub mod Narrower
 pub mod Rounds
 -- Request (e) of 02: soonest sounding.
 pub mod Soonest
--- Request (f) of 02: edges that never open.
+-- Request (f) of 02: edges that never open; walks over two choices of edges.
+pub mod Walks
 pub mod Opening
+-- Request (g) of 02: plans with a joint reset.
+pub mod Joint

@@ -27,44 +27,26 @@ use Rattle.robust.proofs.Opening.{run-opens}
 use Rattle.robust_models.proofs.Opening.{model-opens, opens-jumps}
 use Rattle.call.specs.Call.{modelOf, enough, statesOf, refusal}
 use Rattle.demands.specs.Opening.{Keeps, UnresetBefore, Has, NoneCounts}
+use Rattle.demands.proofs.Walks.{wider, none-of-both}
 
 -- ---- walks of a model
 
-module _ (m : Model) (x : ℕ) where
-  -- what counts is a walk that 01 tested
-  before : {k v u : ℕ} → DrawingWalk m (Counts m x) k v u → DrawingWalk m (Keeps m x) k v u
-  before here = here
-  before (step e h s (k, o) w) = step e h s k (before w)
-
-  -- each edge of a walk that counts can open alone
-  all-open : {k v u : ℕ} (w : DrawingWalk m (Counts m x) k v u) (e : ℕ) → Has (before w) e → OpensAlone m e
-  unfolding before
-  all-open here e h = absurd h
-  all-open (step i h s (k, o) w) e (inl q) = rw q o
-  all-open (step i h s (k, o) w) e (inr q) = all-open w e q
-
-  -- a walk that 01 tested has an edge that cannot open alone, or it counts
-  sift : {k v u : ℕ} (w : DrawingWalk m (Keeps m x) k v u) → ((e : ℕ) × Has w e × (OpensAlone m e → ⊥)) ⊎ DrawingWalk m (Counts m x) k v u
-  sift here = inr here
-  sift (step {k = n} {v = v} {u = u} e h s k w) = by (either (opensAlone m e)) (sift w)
-    where
-      by : (opensAlone m e ≡ true) ⊎ (opensAlone m e ≡ false)
-          → ((i : ℕ) × Has w i × (OpensAlone m i → ⊥)) ⊎ DrawingWalk m (Counts m x) n (targetOf m e) u
-          → ((i : ℕ) × ((i ≡ e) ⊎ Has w i) × (OpensAlone m i → ⊥)) ⊎ DrawingWalk m (Counts m x) (suc n) v u
-      by (inr f) rest = inl (e, inl refl, λ o. false≢true (sym f ∙ opens-law m e .1 o))
-      by (inl t) (inl (i, q, dead)) = inl (i, inr q, dead)
-      by (inl t) (inr c) = inr (step e h s (k, opens-law m e .0 t) c)
+known-open : (m : Model) (e : ℕ) → OpensAlone m e ⊎ (OpensAlone m e → ⊥)
+known-open m e = by (either (opensAlone m e))
+  where
+    by : (opensAlone m e ≡ true) ⊎ (opensAlone m e ≡ false) → OpensAlone m e ⊎ (OpensAlone m e → ⊥)
+    by (inl t) = inl (opens-law m e .0 t)
+    by (inr f) = inr (λ o. false≢true (sym f ∙ opens-law m e .1 o))
 
 none-law : (m : Model) → (LeavesUnreset m → ⊥) ↔ NoneCounts m
 none-law m = (
-  λ none. record { idle = λ x h k v w. by x k v w (λ c. none (x, h, (k, v, c))) (sift m x w) },
-  λ n (x, h, (k, v, w)). let (e, q, dead) = n .idle x h k v (before m x w) in dead (all-open m x w e q),
+  λ none. record { idle = λ x h. each x .0 (λ k v w. none (x, h, (k, v, w))) },
+  λ n (x, h, (k, v, w)). each x .1 (n .idle x h) k v w,
 )
   where
-    by : (x k v : ℕ) (w : DrawingWalk m (Keeps m x) (suc k) v v) → (DrawingWalk m (Counts m x) (suc k) v v → ⊥)
-        → ((e : ℕ) × Has w e × (OpensAlone m e → ⊥)) ⊎ DrawingWalk m (Counts m x) (suc k) v v → (e : ℕ) × Has w e × (OpensAlone m e → ⊥)
-    by x k v w none (inl found) = found
-    by x k v w none (inr c) = absurd (none c)
+    each : (x : ℕ) → ((k v : ℕ) → DrawingWalk m (Counts m x) (suc k) v v → ⊥)
+        ↔ ((k v : ℕ) (w : DrawingWalk m (Keeps m x) (suc k) v v) → (e : ℕ) × Has w e × (OpensAlone m e → ⊥))
+    each x = none-of-both m (Keeps m x) (OpensAlone m) (Counts m x) (λ e. (λ c. c, λ c. c)) (known-open m)
 
 module _ (bytes : List ℕ) where
   -- ---- which bytes are refused by 7, and which are judged
@@ -100,7 +82,10 @@ module _ (bytes : List ℕ) where
 
     -- every plan that 01 accepted still is
     pub accepted-still : (UnresetBefore (r .model) → ⊥) → readModel bytes ≡ r
-    accepted-still none = accept-law bytes r .1 (s, λ (x, h, (k, v, w)). none (x, h, (k, v, before (r .model) x w))) .0
+    accepted-still none = accept-law bytes r .1 (s, λ (x, h, (k, v, w)). none (x, h, (k, v, before x w))) .0
+      where
+        before : (x : ℕ) {k v u : ℕ} → DrawingWalk (r .model) (Counts (r .model) x) k v u → DrawingWalk (r .model) (Keeps (r .model) x) k v u
+        before x = wider (r .model) (Keeps (r .model) x) (OpensAlone (r .model)) (Counts (r .model) x) (λ e. (λ c. c, λ c. c))
 
     -- ---- what "can open alone" means: some allowed state, reachable or not, has a jump along the edge
     pub opens-exactly : (e : ℕ) → e < r .model .edges → OpensAlone (r .model) e ↔ JumpsAlong (automatonOf (r .model)) (edgeOf (r .model) e)

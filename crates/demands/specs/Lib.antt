@@ -18,3 +18,5 @@ pub mod Rounds
 pub mod Soonest
 -- Request (f) of 02: the walks that 01 tested.
 pub mod Opening
+-- Request (g) of 02: plans with a joint reset.
+pub mod Joint

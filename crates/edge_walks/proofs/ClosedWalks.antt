@@ -15,7 +15,7 @@ use Rattle.limits.specs.Limits.{maxLocations}
 use Rattle.limits.proofs.Zeros.{zeros}
 use Rattle.model.specs.Each.{each, someBelow}
 use Rattle.model.specs.Model.{Lawful, sourceOf, targetOf}
-use Rattle.edge_walks.specs.Opening.{markedAt}
+use Rattle.edge_walks.specs.Opening.{markedAt, Flagged}
 use Rattle.edge_walks.specs.Cycle.{DrawingWalk, here, step, ClosedWalk, LeavesUnreset, markSource, markEdge, roundOf, survivors, hasCycle, Counts, counts, unresetAt, unreset}
 use Rattle.model.proofs.Each.{some-law}
 use Rattle.model.proofs.Gather.{each-ext}
@@ -192,6 +192,10 @@ cycle-ext m pass other same =
     (each-ext (m .locations) (λ i a. roundOf m pass a) (λ i a. roundOf m other a) (λ i _ a.
     each-ext (m .edges) (markEdge m pass a) (markEdge m other a) (λ e h b.
     ap (λ (t : Bool). markSource t (sourceOf m e) (targetOf m e) a b) (same e h)) (replicate maxLocations 0)) (replicate maxLocations 1))
+
+-- so the search for flagged edges is that for the edges that pass
+pub flagged-cycle : {m : Model} {flags : List ℕ} {pass : ℕ → Bool} → Flagged m flags pass → hasCycle m (markedAt flags) ≡ hasCycle m pass
+flagged-cycle {m} {flags} {pass} f = cycle-ext m (markedAt flags) pass (f .at)
 
 pub unreset-law : (m : Model) → Lawful m → (unreset m ≡ true) ↔ LeavesUnreset m
 unfolding unreset

@@ -2,3 +2,5 @@
 pub mod Opens
 pub mod Pigeonhole
 pub mod ClosedWalks
+-- The same of the test for joint resets.
+pub mod Joints

@@ -28,6 +28,9 @@ both : (a b : Bool) → a ≡ true → b ≡ true → (a && b) ≡ true
 both true b p q = q
 both false b p q = absurd (false≢true p)
 
+pub and-law : {P Q : Type 0} (a b : Bool) → (a ≡ true) ↔ P → (b ≡ true) ↔ Q → ((a && b) ≡ true) ↔ (P × Q)
+and-law a b p q = (λ h. let (s, t) = and-parts a b h in (p .0 s, q .0 t), λ (s, t). both a b (p .1 s) (q .1 t))
+
 -- ---- which edges can open alone
 
 lets-law : (low from to : ℕ) (kept : Bool) → (letsOpen low from to kept ≡ true) ↔ ((low ≤ from) × (kept ≡ true → low ≤ to))
@@ -54,10 +57,7 @@ module _ (m : Model) (e : ℕ) where
   )
 
   pub counts-law : (x : ℕ) → (counts m x e ≡ true) ↔ Counts m x e
-  counts-law x = (
-    λ h. let (k, o) = and-parts (keeps m x e) (opensAlone m e) h in (k, opens-law .0 o),
-    λ (k, o). both (keeps m x e) (opensAlone m e) k (opens-law .1 o),
-  )
+  counts-law x = and-law (keeps m x e) (opensAlone m e) (λ k. k, λ k. k) opens-law
 
 -- ---- flags
 

@@ -1,5 +1,6 @@
-// Walks of edges on the drawing alone: whether a closed walk that counts leaves some clock unreset.
+// Walks of edges on the drawing alone: whether a closed walk that counts leaves some clock unreset, or has no edge that resets every clock.
 mod cycle;
+mod joint;
 mod opening;
 
 ghost use mathlib.Core.Path.{_≡_};
@@ -10,6 +11,7 @@ ghost use Rattle.model.specs.Model.{Lawful};
 ghost use Rattle.edge_walks.specs.Opening.{opensAlone, Flagged};
 ghost use Rattle.edge_walks.specs.Cycle.{counts, unresetAt, unreset};
 use cycle::has_cycle;
+pub use joint::lacks_joint_reset;
 use limits::MAX_EDGES;
 use model::Model;
 use opening::as_flag;

@@ -1,10 +1,11 @@
 -- Our evidence passes: its numbers fit three groups, and what they spell keeps the rules or replays.
-use mathlib.Core.Path.{_≡_}
+use mathlib.Core.Path.{_≡_, refl, ap}
 use mathlib.Core.Bool.{true, false}
 use mathlib.Core.List.{List, [], _∷_}
 use Prim.Native.Nat.{ℕ, zero, suc, _+_, _%_, _^_, _≤_, _<_}
 use native.Mathlib.Nat.{mod-lt}
 use native.Mathlib.Omega.{arith}
+use lib.ListN.{length}
 use lib.Dec.{eqb, ltb}
 use Rattle.limits.specs.Limits.{maxStates, maxEdges}
 use Rattle.graph.proofs.Plan.{labels-are}
@@ -18,15 +19,16 @@ use Rattle.theory.specs.Sheet.{ourSheet, number}
 use Rattle.theory.specs.Trail.{trailStates}
 use Rattle.theory.specs.ClosedWalk.{closedWalk, closedWalkSteps}
 use Rattle.theory.specs.Labels.{LabelledSystem, leads, leastLabel, labelsAlong, closedWalkLabels}
-use Rattle.theory.specs.Replay.{Move, touch-to, ourMove, movesAlong, ourMoves}
+use Rattle.theory.specs.Replay.{Move, touch-to, Passes, ourMove, movesAlong, ourMoves}
 use Rattle.theory.proofs.Below.{cond-ind, least-le}
 use Rattle.theory.proofs.Enumeration.{lawful-whole, lawful-rank, region-at}
 use Rattle.theory.proofs.Marked.{unsafe-is, safe-is}
 use Rattle.theory.proofs.Sheet.{number-le, our-sheet-passes}
-use Rattle.theory.proofs.Trail.{unsafe-trail, trail-steps-below}
+use Rattle.theory.proofs.Trail.{unsafe-trail, trail-length, trail-steps-below}
 use Rattle.theory.proofs.StateGraph.{count-positive}
 use Rattle.theory.proofs.Labels.{closed-labels-length}
-use Rattle.theory.proofs.Replay.{our-moves-length, our-moves-pass}
+use Rattle.theory.proofs.Replay.{our-moves-pass}
+use Rattle.number.specs.Number.{spellAll}
 use Rattle.number.proofs.Sequence.{Fit, fit-none, fit-more, fit-append}
 use Rattle.evidence_number.proofs.Reading.{shortest-spelled}
 use Rattle.model.specs.declared.Model.{Model}
@@ -48,6 +50,11 @@ fit-tab (suc n) f h = fit-more (h zero (omega arith)) (fit-tab n (λ i. f (suc i
 fit-label : (x : ℕ) → x < 2 ^ 21 → Fit (labelNumbers x)
 fit-label zero h = fit-more (omega arith) fit-none
 fit-label (suc e) h = fit-more (omega arith) (fit-more (omega arith) fit-none)
+
+moves-length : (P : LabelledSystem) (l : List ℕ) (p : ℕ) → length (movesAlong P p l) ≡ length l
+unfolding movesAlong
+moves-length P [] p = refl
+moves-length P (q ∷ l) p = ap suc (moves-length P l q)
 
 module _ (m : Model) (ok : Lawful m) where
   abbrev Y : System
@@ -110,17 +117,23 @@ module _ (m : Model) (ok : Lawful m) where
 
   -- ---- a trail where a marked state is forbidden, a sheet where none is
 
+  -- the moves through given states, if they pass
+  pub path-trail : (l : List ℕ) → length l ≤ Y .size → Passes P (movesAlong P (Y .start) l)
+      → TrailPasses m (spellAll (2 ∷ trailNumbers (automatonOf m) (movesAlong P (Y .start) l)))
+  unfolding trailNumbers
+  path-trail l few w = (
+    movesAlong P (Y .start) l,
+    shortest-spelled (2 ∷ trailNumbers (automatonOf m) (movesAlong P (Y .start) l))
+        (fit-more (omega arith) (fit-more (omega (arith, moves-length P l (Y .start), few, size-few)) (fit-moves l (Y .start)))),
+    w,
+  )
+
   pub our-trail : unsafe Y ≡ true → TrailPasses m (ourEvidence m)
-  unfolding ourEvidence ourTrailNumbers trailNumbers ourMoves labelledOf
+  unfolding ourEvidence ourTrailNumbers ourMoves labelledOf
   our-trail u =
       let (l, t) = unsafe-trail Y (system-laws m ok) (unsafe-is Y (system-laws m ok) u) in
-      let many = our-moves-length P (labelled-laws m ok) l t in
-      let few = trail-steps-below Y (system-laws m ok) l t in (
-        ourMoves P,
-        rw u (shortest-spelled (ourTrailNumbers m)
-            (fit-more (omega arith) (fit-more (omega (arith, many, few, size-few)) (fit-moves (trailStates Y) (Y .start))))),
-        our-moves-pass P (labelled-laws m ok) l t,
-      )
+      let few = trail-steps-below Y (system-laws m ok) l t in
+      rw u (path-trail (trailStates Y) (omega (arith, few, trail-length Y (system-laws m ok))) (our-moves-pass P (labelled-laws m ok) l t))
 
   pub our-sheet : unsafe Y ≡ false → SheetPasses m (ourEvidence m)
   unfolding ourEvidence ourSheetNumbers ourSheet

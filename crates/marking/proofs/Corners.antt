@@ -1,5 +1,6 @@
 -- Touch steps: the slots of a chain hold a point, and a flag stands for a location and a point.
 use mathlib.Core.Path.{_≡_, refl, sym, _∙_}
+use mathlib.Core.Bool.{Bool, true}
 use mathlib.Core.Logic.{_⊎_, inl, inr, ⊎-elim}
 use mathlib.Core.List.{List, _∷_, List·Memᴰ, List·Memᴰ·head, List·Memᴰ·tail, List·Memᴰ·cases-cons, List·Memᴰ·not-nil}
 use Prim.Native.Nat.{ℕ, suc, _+_, _*_, _/_, _%_, _≤_, _<_}
@@ -80,7 +81,7 @@ module _ {corner link : List ℕ} {v next : ℕ} (P : PointAt corner link v next
 part-of : (l R S n : ℕ) → S ≡ n * R → l * R < S → l + 1 ≤ n
 part-of l R S n e b = let h : l < n = lt-of-mul-lt-mul-right R (rw e at b) in omega arith
 
-module _ {S R : ℕ} {shapes heights : List ℕ} (T : RegionTables S R shapes heights) (l : ℕ) (b : l * R < S) where
+module _ {touch : Bool} {S R : ℕ} {shapes heights : List ℕ} (T : RegionTables touch S R shapes heights) (l : ℕ) (b : l * R < S) where
   pub location-states : l * R + R ≤ S
   location-states = omega (arith, T .whole, mul-le-mul-right R (part-of l R S (T .locations) (T .whole) b))
 
@@ -88,13 +89,13 @@ module _ {S R : ℕ} {shapes heights : List ℕ} (T : RegionTables S R shapes he
   slot-state s h = omega (arith, location-states)
 
 -- the point of a slot
-module _ {S R : ℕ} {shapes heights : List ℕ} (T : RegionTables S R shapes heights) {c s w : ℕ} (a : c ≡ cornersAt R) (b : s < slotCount * R)
+module _ {S R : ℕ} {shapes heights : List ℕ} (T : RegionTables true S R shapes heights) {c s w : ℕ} (a : c ≡ cornersAt R) (b : s < slotCount * R)
     (e : w ≡ getD shapes (c + s) 0) where
   pub slot-point : w ≡ getD (cornersIn R shapes) s 0
   slot-point = e ∙ rw a (corner-at R shapes (T .faces .long) s b)
 
   pub slot-point-below : w < pointCount
-  slot-point-below = omega (arith, slot-point, T .corner-below s b)
+  slot-point-below = omega (arith, slot-point, T .corner-below refl s b)
 
 -- ---- flags of points
 
@@ -122,7 +123,8 @@ visits-more N A = record { covers = λ k h q a. takes-reached A q (N .covers k h
 
 -- ---- before and after states are taken in
 
-module _ {R x : ℕ} {shapes heights visited level queue : List ℕ} {n : ℕ} (D : Ready R x shapes heights visited level queue n) where
+module _ {touch : Bool} {R x : ℕ} {shapes heights visited level queue : List ℕ} {n : ℕ}
+    (D : Ready touch R x shapes heights visited level queue n) where
   -- the flag of a location and a point
   pub flag-below : (l v : ℕ) → l * R < length level → v < pointCount → l * pointCount + v < length visited
   flag-below l v b c =
@@ -130,7 +132,7 @@ module _ {R x : ℕ} {shapes heights visited level queue : List ℕ} {n : ℕ} (
 
   pub ready-next : {visited′ level′ queue′ : List ℕ} {n′ : ℕ} {T : ℕ → Type 0} → length visited′ ≡ length visited
       → Takes x T level level′ queue queue′ n n′ → Visits R (cornersIn R shapes) heights visited′ level′
-      → Ready R x shapes heights visited′ level′ queue′ n′
+      → Ready touch R x shapes heights visited′ level′ queue′ n′
   ready-next e A N = record {
     small = D .small;
     tables = rw (A .long) (D .tables);
@@ -140,5 +142,5 @@ module _ {R x : ℕ} {shapes heights visited level queue : List ℕ} {n : ℕ} (
   }
 
   pub ready-more : {level′ queue′ : List ℕ} {n′ : ℕ} {T : ℕ → Type 0} → Takes x T level level′ queue queue′ n n′
-      → Ready R x shapes heights visited level′ queue′ n′
+      → Ready touch R x shapes heights visited level′ queue′ n′
   ready-more A = ready-next refl A (visits-more (D .visits) A)

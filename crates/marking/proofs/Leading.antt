@@ -1,5 +1,6 @@
 -- All parts of what a state leads to: its row, the faces of its region, its corner slots.
 use mathlib.Core.Path.{_≡_, sym}
+use mathlib.Core.Bool.{Bool, false}
 use mathlib.Core.Logic.{_⊎_, inl, inr, ⊎-elim}
 use mathlib.Core.List.{List}
 use Prim.Native.Nat.{ℕ, _+_, _*_, _/_, _%_, _<_}
@@ -22,12 +23,16 @@ use Rattle.shapes.proofs.Parts.{corners-long}
 abbrev pub FacesOf : ℕ → List ℕ → ℕ → ℕ → ℕ → Type 0
 FacesOf R shapes base i = InList (facesIn R shapes) base (getD (rowsIn R shapes) i 0) (getD (rowsIn R shapes) (i + 1) 0)
 
-module _ {S R : ℕ} {shapes heights : List ℕ} (Z : RegionTables S R shapes heights) (p : ℕ) where
+module _ {touch : Bool} {S R : ℕ} {shapes heights : List ℕ} (Z : RegionTables touch S R shapes heights) (p : ℕ) where
   pub region-below : p % R < R
   region-below = mod-lt p (Z .some)
 
   pub location-below : p < S → p / R * R < S
   location-below b = omega (arith, div-add-mod' p R)
+
+  -- no state is told to lie on a closed walk, so none is touched
+  pub touch-none : touch ≡ false → (q : ℕ) → Touches (cornersIn R shapes) heights (p / R * R) (p % R) 0 q → ⊥
+  touch-none e q t = omega (arith, t .is .closed, Z .none-closed e q)
 
   module _ {first targets : List ℕ} (q : ℕ) where
     pub face-part : FacesOf R shapes (p / R * R) (p % R) q → Successor R first targets shapes heights p q

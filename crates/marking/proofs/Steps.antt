@@ -1,6 +1,6 @@
 -- What the tables lead to is what the steps of the system lead to, so the search finds its distances.
 use mathlib.Core.Path.{_≡_, sym, ap, _∙_}
-use mathlib.Core.Bool.{true}
+use mathlib.Core.Bool.{Bool, true}
 use mathlib.Core.List.{List}
 use Prim.Native.Nat.{ℕ, _+_, _-_, _*_, _/_, _%_, _≤_, _<_}
 use native.Mathlib.Omega.{arith}
@@ -24,8 +24,8 @@ use Rattle.marking.proofs.Corners.{location-states}
 use Rattle.marking.proofs.Leading.{location-below}
 use Rattle.search.specs.Rounds as levels
 
-module _ (Y : System) (L : Laws Y) {start R : ℕ} {first targets shapes heights : List ℕ} (Z : RegionTables (Y .size) R shapes heights)
-    (T : Tables Y start R first targets shapes heights) where
+module _ (Y : System) (L : Laws Y) {touch : Bool} {start R : ℕ} {first targets shapes heights : List ℕ}
+    (Z : RegionTables touch (Y .size) R shapes heights) (T : Tables Y start R first targets shapes heights) where
   -- a state of the same location
   same-below : (p q : ℕ) → p < Y .size → p / R ≡ q / R → q < Y .size
   same-below p q b e =
@@ -75,7 +75,8 @@ count-marks Y L distance D =
     rw (D .long) (count-same (Y .size) (λ p. ltb 0 (getD distance p 0)) (marks Y) (λ p b. ap (ltb 0) (D .is p b) ∙ mark-marks Y L p))
 
 -- no state at x: all are found
-module _ {start R x lo hi : ℕ} {first targets shapes heights distance queue : List ℕ} (Z : RegionTables (length distance) R shapes heights)
+module _ {touch : Bool} {start R x lo hi : ℕ} {first targets shapes heights distance queue : List ℕ}
+    (Z : RegionTables touch (length distance) R shapes heights)
     (I : levels.Searched (Successor R first targets shapes heights) start x lo hi distance queue) (over : hi ≤ lo) where
   module _ (Y : System) (L : Laws Y) (e : Y .size ≡ length distance) (T : Tables Y start R first targets shapes heights) where
     agree : levels.Agrees (length distance) (step Y) start (Successor R first targets shapes heights)

@@ -1,5 +1,6 @@
 -- Touch steps: the states that have a corner at a point, and flags of the points whose states are taken in.
 use mathlib.Core.Path.{_≡_}
+use mathlib.Core.Bool.{Bool}
 use mathlib.Core.List.{List}
 use Prim.Native.Nat.{ℕ, _+_, _*_, _/_, _%_, _≤_, _<_}
 use lib.ListN.{length, getD}
@@ -25,9 +26,9 @@ pub record Visits (R : ℕ) (corner heights visited level : List ℕ) : Type 0 w
   pub covers : (k : ℕ) → 0 < getD visited k 0 → Covers (AtPoint corner heights (k / pointCount * R) (k % pointCount)) level
 
 -- before states of level x are taken in
-pub record Ready (R x : ℕ) (shapes heights visited level queue : List ℕ) (n : ℕ) : Type 0 where
+pub record Ready (touch : Bool) (R x : ℕ) (shapes heights visited level queue : List ℕ) (n : ℕ) : Type 0 where
   pub small : x ≤ maxStates
-  pub tables : RegionTables (length level) R shapes heights
+  pub tables : RegionTables touch (length level) R shapes heights
   pub spots : Spots (length level) R (length visited)
   pub visits : Visits R (cornersIn R shapes) heights visited level
   pub fits : Queued level queue n

@@ -1,6 +1,6 @@
 -- The tables that the search reads. States are numbered by location, then region: p is region p % R of location p / R.
 use mathlib.Core.Path.{_≡_}
-use mathlib.Core.Bool.{Bool, true, _&&_}
+use mathlib.Core.Bool.{Bool, true, false, _&&_}
 use mathlib.Core.Logic.{_↔_}
 use mathlib.Core.List.{List}
 use Prim.Native.Nat.{ℕ, _*_, _/_, _%_, _≤_, _<_}
@@ -40,20 +40,23 @@ pub record Faces (R : ℕ) (shapes : List ℕ) : Type 0 where
   pub long : length shapes ≡ shapesEnd R
   pub face : Rows (rowsIn R shapes) (facesIn R shapes) R
 
--- `heads` and `links` lead through the slots that hold a point
-pub record RegionTables (S R : ℕ) (shapes heights : List ℕ) : Type 0 where
+-- `touch`: the search takes touch steps, and only then reads the tables of corners
+pub record RegionTables (touch : Bool) (S R : ℕ) (shapes heights : List ℕ) : Type 0 where
   pub some : 0 < R
   pub states : S ≤ maxStates
   pub locations : ℕ
   pub whole : S ≡ locations * R
   pub faces : Faces R shapes
-  pub corner-below : (s : ℕ) → s < slotCount * R → getD (cornersIn R shapes) s 0 < pointCount
-  pub chains : Chains (cornersIn R shapes) (headsIn R shapes) (linksIn R shapes)
+  pub corner-below : touch ≡ true → (s : ℕ) → s < slotCount * R → getD (cornersIn R shapes) s 0 < pointCount
+  -- `heads` and `links` lead through the slots that hold a point
+  pub chains : touch ≡ true → Chains (cornersIn R shapes) (headsIn R shapes) (linksIn R shapes)
   pub heights-long : length heights ≡ S
+  -- without touch steps no state is told to lie on a closed walk
+  pub none-closed : touch ≡ false → (q : ℕ) → getD heights q 0 % 2 ≡ 0
 
-pub record SearchTables (S R : ℕ) (first targets shapes heights : List ℕ) : Type 0 where
+pub record SearchTables (touch : Bool) (S R : ℕ) (first targets shapes heights : List ℕ) : Type 0 where
   pub flow : Rows first targets S
-  pub tables : RegionTables S R shapes heights
+  pub tables : RegionTables touch S R shapes heights
 
 -- a flag for each location and point
 pub record Spots (S R flags : ℕ) : Type 0 where

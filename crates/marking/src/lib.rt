@@ -21,6 +21,7 @@ pub use tally::fewest;
 
 // A round: the states at level x are the places lo .. hi of the queue.
 fn round(
+    touch: bool,
     regions: usize,
     first: &[u32],
     targets: &[Word],
@@ -35,7 +36,7 @@ fn round(
 ) -> usize
     requires { ⌜
         (lo ≤ hi) × Rows (now first) (now targets) (length (now distance))
-        × Ready regions x (now shapes) (now heights) (now visited) (now distance) (now queue) hi
+        × Ready touch regions x (now shapes) (now heights) (now visited) (now distance) (now queue) hi
         ⌝ }
     ensures { λ r. ⌜
         TakesVisited regions x
@@ -49,6 +50,7 @@ fn round(
     while i < hi {
         let p = from_word(queue[i]);
         n = spread(
+            touch,
             regions,
             first,
             targets,
@@ -66,10 +68,11 @@ fn round(
     n
 }
 
-// Into `distance` the distance of every state from the start plus one, or 0 where no steps lead to it; the number of rounds. `queue` and `visited` may
-// hold anything; `queue` is left with the marked states, level by level. `visited` has a flag for each location and point: set once the states there
-// are taken in.
+// Into `distance` the distance of every state from the start plus one, or 0 where no steps lead to it; the number of rounds. Without `touch` there
+// are no touch steps, and the tables of corners are not read. `queue` and `visited` may hold anything; `queue` is left with the marked states, level
+// by level. `visited` has a flag for each location and point: set once the states there are taken in.
 pub fn distances(
+    touch: bool,
     start: usize,
     regions: usize,
     first: &[u32],
@@ -82,7 +85,7 @@ pub fn distances(
 ) -> Word
     requires { ⌜
         (start < length (now distance)) × (length (now queue) ≡ length (now distance))
-        × SearchTables (length (now distance)) regions (now first) (now targets) (now shapes) (now heights)
+        × SearchTables touch (length (now distance)) regions (now first) (now targets) (now shapes) (now heights)
         × Spots (length (now distance)) regions (length (now visited))
         ⌝ }
     ensures { λ r. ⌜
@@ -99,6 +102,7 @@ pub fn distances(
     let mut hi = 1;
     while lo < hi {
         let n = round(
+            touch,
             regions,
             first,
             targets,

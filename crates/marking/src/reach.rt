@@ -1,6 +1,7 @@
 // What a state at a level leads to: the states not reached before get the next level and a place in the queue.
 
 ghost use mathlib.Core.Path.{_≡_};
+ghost use mathlib.Core.Bool.{true};
 ghost use Prim.Native.Nat.{ℕ, _+_, _*_, _%_, _≤_, _<_};
 ghost use lib.ListN.{length, getD};
 ghost use Rattle.limits.specs.Limits.{maxStates, slotCount, pointCount};
@@ -97,7 +98,7 @@ fn take_point(
 ) -> usize
     requires { ⌜
         (x ≤ maxStates) × (location * regions < length (now distance)) × (v < pointCount)
-        × RegionTables (length (now distance)) regions (now shapes) (now heights) × Queued (now distance) (now queue) n
+        × RegionTables true (length (now distance)) regions (now shapes) (now heights) × Queued (now distance) (now queue) n
         ⌝ }
     ensures { λ r. ⌜
         TakesAll x (AtPoint (cornersIn regions (now (shapes .entry))) (now (heights .entry)) (location * regions) v)
@@ -132,7 +133,7 @@ fn take_corner(
 ) -> usize
     requires { ⌜
         (location * regions < length (now distance)) × (slot < slotCount * regions)
-        × Ready regions x (now shapes) (now heights) (now visited) (now distance) (now queue) n
+        × Ready true regions x (now shapes) (now heights) (now visited) (now distance) (now queue) n
         ⌝ }
     ensures { λ r. ⌜
         TakesVisited regions x (AtPoint (cornersIn regions (now (shapes .entry))) (now (heights .entry)) (location * regions)
@@ -165,7 +166,7 @@ fn take_corners(
 ) -> usize
     requires { ⌜
         (location * regions < length (now distance)) × (i < regions)
-        × Ready regions x (now shapes) (now heights) (now visited) (now distance) (now queue) n
+        × Ready true regions x (now shapes) (now heights) (now visited) (now distance) (now queue) n
         ⌝ }
     ensures { λ r. ⌜
         TakesVisited regions x (Touches (cornersIn regions (now (shapes .entry))) (now (heights .entry)) (location * regions) i 0)
@@ -194,8 +195,9 @@ fn take_corners(
     end
 }
 
-// All that p leads to: its time and jump steps, the faces, the touch steps.
+// All that p leads to: its time and jump steps, the faces, and with `touch` the touch steps.
 pub fn spread(
+    touch: bool,
     regions: usize,
     first: &[u32],
     targets: &[Word],
@@ -210,7 +212,7 @@ pub fn spread(
 ) -> usize
     requires { ⌜
         (p < length (now distance)) × Rows (now first) (now targets) (length (now distance))
-        × Ready regions x (now shapes) (now heights) (now visited) (now distance) (now queue) n
+        × Ready touch regions x (now shapes) (now heights) (now visited) (now distance) (now queue) n
         ⌝ }
     ensures { λ r. ⌜
         TakesVisited regions x
@@ -223,16 +225,19 @@ pub fn spread(
     let i = p % regions;
     let n1 = take_row(first, targets, distance, queue, x, p, n);
     let n2 = take_faces(regions, shapes, distance, queue, x, location, i, n1);
-    take_corners(
-        regions,
-        shapes,
-        heights,
-        visited,
-        distance,
-        queue,
-        x,
-        location,
-        i,
-        n2,
-    )
+    if touch {
+        return take_corners(
+            regions,
+            shapes,
+            heights,
+            visited,
+            distance,
+            queue,
+            x,
+            location,
+            i,
+            n2,
+        );
+    }
+    n2
 }

@@ -2,6 +2,7 @@
 use Prim.Native.Nat.{ℕ, _≤_}
 use native.Mathlib.Omega.{arith}
 use mathlib.Core.Path.{_≡_, sym, ap₂, _∙_}
+use mathlib.Core.Bool.{Bool, true, false, true≢false}
 use mathlib.Core.List.{List}
 use lib.ListN.{length, take}
 use Rattle.theory.specs.Region.{regions}
@@ -11,15 +12,24 @@ use Rattle.shapes.proofs.Parts.{alike-front, alike-before, put, put-long, put-b
 use Rattle.region.specs.Limits.{Clocks, Ceiling}
 use Rattle.region_corners.specs.Corners.{CornerSlots}
 use Rattle.region_corners.specs.Faces.{faceOf}
-use Rattle.region_corners.specs.Shapes.{Shapes, Linked, Slotted, Chained}
+use Rattle.region_corners.specs.Shapes.{FaceShapes, Shapes, Linked, SearchShapes, Slotted, Chained}
 use Rattle.region_table.proofs.Counts.{regions-few}
 
--- rows and faces are there, and the slots y are put behind them
+-- what else is there is left out
+pub shapes-faces : {n M : ℕ} {t : List ℕ} → Shapes n M t → FaceShapes n M t
+shapes-faces S = record { long = S .long; face = S .face }
+
+pub linked-search : {n M : ℕ} {t : List ℕ} (touch : Bool) → Linked n M t → SearchShapes touch n M t
+linked-search touch K = record { faces = shapes-faces (K .shapes); linked = λ _. K }
+
+-- where no touch steps are asked for the faces are all
+pub faces-search : {touch : Bool} {n M : ℕ} {t : List ℕ} → touch ≡ false → FaceShapes n M t → SearchShapes touch n M t
+faces-search e F = record { faces = F; linked = λ i. absurd (true≢false (sym i ∙ e)) }
+
+-- the faces are there, and the slots y are put behind them
 pub shapes-filled : {n M a b : ℕ} (t y : List ℕ) → a ≡ cornersAt (length (regions n M)) → b ≡ linksAt (length (regions n M))
-    → length t ≡ shapesEnd (length (regions n M))
-    → Holds (rowsIn (length (regions n M)) t) (facesIn (length (regions n M)) t) (length (regions n M)) (faceOf n M)
-    → length y ≡ length (part a b t) → CornerSlots n M y → Shapes n M (put a b t y)
-shapes-filled {n} {M} {a} {b} t y p q l H e C =
+    → FaceShapes n M t → length y ≡ length (part a b t) → CornerSlots n M y → Shapes n M (put a b t y)
+shapes-filled {n} {M} {a} {b} t y p q F e C =
     let r = length (regions n M) in
     let u = put a b t y in
     let i : a ≤ b = omega arith in
@@ -28,7 +38,7 @@ shapes-filled {n} {M} {a} {b} t y p q l H e C =
     let f : rowsIn r u ≡ rowsIn r t = alike-front a (facesAt r) u t (omega arith) k in
     let g : facesIn r u ≡ facesIn r t = alike-before a (facesAt r) (cornersAt r) u t (omega arith) k in
     let h : cornersIn r u ≡ y = ap₂ (λ (a b : ℕ). part a b u) (sym p) (sym q) ∙ put-part a b t y i j e in
-    record { long = put-long a b t y i j e ∙ l; face = rw (f, g) H; slots = rw h C }
+    record { long = put-long a b t y i j e ∙ F .long; face = rw (f, g) (F .face); slots = rw h C }
 
 -- ---- the chains, asked for and added
 

@@ -1,5 +1,6 @@
 -- The tables by region in one slice.
 use mathlib.Core.Path.{_≡_}
+use mathlib.Core.Bool.{Bool, true}
 use mathlib.Core.List.{List}
 use Prim.Native.Nat.{ℕ, _*_, _≤_, _<_}
 use lib.ListN.{length, getD, take}
@@ -10,7 +11,12 @@ use Rattle.shapes.specs.Layout.{linksAt, shapesEnd, rowsIn, facesIn, cornersIn,
 use Rattle.region_corners.specs.Corners.{CornerSlots}
 use Rattle.region_corners.specs.Faces.{faceOf}
 
--- the faces and the corners of every region of n clocks at ceiling M
+-- the faces of every region of n clocks at ceiling M
+pub record FaceShapes (n M : ℕ) (t : List ℕ) : Type 0 where
+  pub long : length t ≡ shapesEnd (length (regions n M))
+  pub face : Holds (rowsIn (length (regions n M)) t) (facesIn (length (regions n M)) t) (length (regions n M)) (faceOf n M)
+
+-- and their corners
 pub record Shapes (n M : ℕ) (t : List ℕ) : Type 0 where
   pub long : length t ≡ shapesEnd (length (regions n M))
   pub face : Holds (rowsIn (length (regions n M)) t) (facesIn (length (regions n M)) t) (length (regions n M)) (faceOf n M)
@@ -20,6 +26,11 @@ pub record Shapes (n M : ℕ) (t : List ℕ) : Type 0 where
 pub record Linked (n M : ℕ) (t : List ℕ) : Type 0 where
   pub shapes : Shapes n M t
   pub chains : Chains (cornersIn (length (regions n M)) t) (headsIn (length (regions n M)) t) (linksIn (length (regions n M)) t)
+
+-- what a search reads: the faces, and where touch steps are asked for the corners with their chains
+pub record SearchShapes (touch : Bool) (n M : ℕ) (t : List ℕ) : Type 0 where
+  pub faces : FaceShapes n M t
+  pub linked : touch ≡ true → Linked n M t
 
 -- ---- the chains alone, for R regions
 

@@ -6,13 +6,13 @@ ghost use lib.ListN.{length, getD};
 ghost use Rattle.limits.specs.Limits.{rankCodeCount};
 ghost use Rattle.theory.specs.Lists.{flat};
 ghost use Rattle.theory.specs.Region.{regions};
-ghost use Rattle.theory.specs.Adjacency.{Holds};
-ghost use Rattle.shapes.specs.Layout.{shapesEnd, rowsIn, facesIn};
+ghost use Rattle.shapes.specs.Layout.{shapesEnd};
 ghost use Rattle.region.specs.Limits.{Clocks, Ceiling};
 ghost use Rattle.region.specs.View.{Small};
 ghost use Rattle.region_table.specs.Table.{packedRegions};
 ghost use Rattle.region_steps.specs.Tables.{Indexed};
-ghost use Rattle.region_corners.specs.Faces.{faceOf, wholeCode, rankCode, faceCodes, faceRows, starts, LookedUp};
+ghost use Rattle.region_corners.specs.Faces.{wholeCode, rankCode, faceCodes, faceRows, starts, LookedUp};
+ghost use Rattle.region_corners.specs.Shapes.{FaceShapes};
 use super::table::FACE_COUNT;
 use super::table::START_COUNT;
 use super::table::face_list;
@@ -87,10 +87,7 @@ pub fn fill_faces(n: u8, ceiling: u8, table: &[u32], index: &[u16], shapes: &mut
         Clocks n × Ceiling ceiling × (now table ≡ packedRegions n ceiling) × Indexed n ceiling (now index)
         × (length (now shapes) ≡ shapesEnd (length (regions n ceiling)))
         ⌝ }
-    ensures { λ _. ⌜
-        Holds (rowsIn (length (regions n ceiling)) (now (shapes .exit))) (facesIn (length (regions n ceiling)) (now (shapes .exit)))
-        (length (regions n ceiling)) (faceOf n ceiling)
-        ⌝ }
+    ensures { λ _. ⌜ FaceShapes n ceiling (now (shapes .exit)) ⌝ }
 {
     let list = face_list();
     let first = start_list();

@@ -5,6 +5,7 @@ use native.Mathlib.Omega.{arith}
 use mathlib.Core.Path.{_≡_, refl, sym, subst, _∙_}
 use mathlib.Core.Bool.{Bool, true, false, not, cond, true≢false}
 use mathlib.Core.Logic.{_↔_}
+use mathlib.Core.List.{List·Memᴰ}
 use lib.Dec.{eqb}
 use lib.ListN.{getD}
 use Rattle.theory.specs.Below.{tab}
@@ -79,12 +80,17 @@ module _ (m : Model) (e : ℕ) where
 
 -- ---- just these are ever taken
 
+-- an edge of the model is one of its automaton
+pub drawn-edge : (m : Model) (e : ℕ) → e < m .edges → List·Memᴰ (edgeOf m e) (automatonOf m .edges)
+unfolding automatonOf
+drawn-edge m e h = map-law (edgeOf m) (from 0 (m .edges)) (edgeOf m e) .1 (e, from-law 0 (m .edges) e .1 (omega arith), refl)
+
 module _ (m : Model) (ok : Lawful m) (e : ℕ) (h : e < m .edges) where
   -- an edge of a model counts exactly where some allowed state, reachable or not, has a jump along it
   pub opens-jumps : drawing.OpensAlone m e ↔ JumpsAlong (automatonOf m) (edgeOf m e)
   unfolding automatonOf
   opens-jumps =
       let exactly =
-      opens-exactly (capped m ok) (map-law (edgeOf m) (from 0 (m .edges)) (edgeOf m e) .1 (e, from-law 0 (m .edges) e .1 (omega arith), refl))
+      opens-exactly (capped m ok) (drawn-edge m e h)
       (each-tab (m .clocks) (lowAt m e) (highAt m e) (λ x _. ok .ranges .lower (slot e x))) in
       (λ o. exactly .0 (model-opens m e .0 o), λ j. model-opens m e .1 (exactly .1 j))

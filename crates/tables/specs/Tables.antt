@@ -1,5 +1,6 @@
 -- The tables of a model: how long they are lent, and what they hold.
 use mathlib.Core.Path.{_≡_}
+use mathlib.Core.Bool.{Bool}
 use mathlib.Core.List.{List}
 use Prim.Native.Nat.{ℕ, _+_, _*_, _≤_}
 use lib.ListN.{length}
@@ -8,7 +9,7 @@ use Rattle.model.specs.declared.Model.{Model}
 use Rattle.graph.specs.States.{states}
 use Rattle.successors.specs.Flow.{regionsIn, FlowLists}
 use Rattle.successors.specs.Flags.{AllowedFlags}
-use Rattle.region_corners.specs.Shapes.{Shapes}
+use Rattle.region_corners.specs.Shapes.{Shapes, SearchShapes}
 
 -- room for the steps of all states
 pub record StepRoom (m : Model) (allowed first targets : List ℕ) : Type 0 where
@@ -28,3 +29,8 @@ pub record Room (m : Model) (allowed first targets shapes : List ℕ) : Type 0 w
 pub record Filled (m : Model) (allowed first targets shapes : List ℕ) : Type 0 where
   pub by-state : Steps m allowed first targets
   pub by-region : Shapes (m .clocks) (m .ceiling) shapes
+
+-- what a search reads, with touch steps or without
+pub record Searchable (touch : Bool) (m : Model) (allowed first targets shapes : List ℕ) : Type 0 where
+  pub by-state : Steps m allowed first targets
+  pub by-region : SearchShapes touch (m .clocks) (m .ceiling) shapes

@@ -1,5 +1,6 @@
 -- At a system that the tables tell of: the flags are those of its shortest walks into a forbidden location, and the walk along them is our trail.
 use mathlib.Core.Path.{_≡_, sym, _∙_}
+use mathlib.Core.Bool.{Bool}
 use mathlib.Core.List.{List}
 use Prim.Native.Nat.{ℕ, _+_, _/_, _<_}
 use native.Mathlib.Omega.{arith}
@@ -22,7 +23,7 @@ module _ {Y : System} {steps start R : ℕ} {first targets shapes heights kind d
   unfolding trailSteps
   steps-dist = K .fewest
 
-  pub told-aims : RegionTables (length distance) R shapes heights → steps < length distance
+  pub told-aims : {touch : Bool} → RegionTables touch (length distance) R shapes heights → steps < length distance
       → Aims (Successor R first targets shapes heights) (λ z. getD kind (z / R) 0 ≡ 1) start (steps + 1) distance (step Y) (Y .forbidden)
   told-aims Z short =
       let G = steps-agree Y (K .laws) (rw (← K .size) at Z) (K .tables) in

@@ -14,6 +14,7 @@ use limits::cast::from_word;
 
 // The flag for state p, if at the last level x it is forbidden, or at a level before it leads to a state of the next level that has the flag.
 fn flag_state(
+    touch: bool,
     regions: usize,
     first: &[u32],
     targets: &[Word],
@@ -26,7 +27,7 @@ fn flag_state(
 )
     requires { ⌜
         (p < length (now distance)) × (length (now distance) ≤ length (now kind) * regions) × (getD (now distance) p 0 ≤ maxStates)
-        × SearchTables (length (now distance)) regions (now first) (now targets) (now shapes) (now heights)
+        × SearchTables touch (length (now distance)) regions (now first) (now targets) (now shapes) (now heights)
         ⌝ }
     ensures { λ _. ⌜
         Tried (Ahead (Successor regions (now (first .entry)) (now (targets .entry)) (now (shapes .entry)) (now (heights .entry)))
@@ -39,6 +40,7 @@ fn flag_state(
     }
     if y < x {
         let q = least_next(
+            touch,
             regions,
             first,
             targets,
@@ -60,6 +62,7 @@ fn flag_state(
 
 // The same for all states that are reached, from the queue's last place down: those of the next level have their flags.
 pub fn flag_all(
+    touch: bool,
     regions: usize,
     first: &[u32],
     targets: &[Word],
@@ -72,7 +75,7 @@ pub fn flag_all(
 )
     requires { ⌜
         (length (now distance) ≤ length (now kind) * regions) × ByLevel (now distance) (now queue) (reachedCount (now distance))
-        × SearchTables (length (now distance)) regions (now first) (now targets) (now shapes) (now heights)
+        × SearchTables touch (length (now distance)) regions (now first) (now targets) (now shapes) (now heights)
         ⌝ }
     ensures { λ _. ⌜
         ((start : ℕ)
@@ -85,6 +88,7 @@ pub fn flag_all(
         i -= 1;
         let p = from_word(queue[i]);
         flag_state(
+            touch,
             regions,
             first,
             targets,

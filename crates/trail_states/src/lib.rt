@@ -22,6 +22,7 @@ use next::least_next;
 
 // From the start, step after step, the least state of the next level that has the flag.
 fn follow(
+    touch: bool,
     steps: usize,
     start: usize,
     regions: usize,
@@ -34,7 +35,7 @@ fn follow(
 )
     requires { ⌜
         (steps < length (now distance)) × (start < length (now distance)) × (steps ≤ length (now path))
-        × SearchTables (length (now distance)) regions (now first) (now targets) (now shapes) (now heights)
+        × SearchTables touch (length (now distance)) regions (now first) (now targets) (now shapes) (now heights)
         ⌝ }
     ensures { λ _. ⌜
         ((r : ℕ → ℕ → Bool) (goal : ℕ → Bool)
@@ -47,6 +48,7 @@ fn follow(
     let mut i = 0;
     while i < steps {
         let q = least_next(
+            touch,
             regions,
             first,
             targets,
@@ -66,9 +68,10 @@ fn follow(
     }
 }
 
-// Into `path` the states of our trail, which has `steps` steps. `distance` has the distance of every state from the start plus one; flags are put on
-// it and taken off again. `queue` lists the marked states level by level.
+// Into `path` the states of our trail, which has `steps` steps; without `touch` there are no touch steps. `distance` has the distance of every state
+// from the start plus one; flags are put on it and taken off again. `queue` lists the marked states level by level.
 pub fn trail_states(
+    touch: bool,
     steps: usize,
     start: usize,
     regions: usize,
@@ -84,7 +87,7 @@ pub fn trail_states(
     requires { ⌜
         (steps < length (now distance)) × (start < length (now distance)) × (steps ≤ length (now path))
         × (length (now distance) ≤ length (now kind) * regions) × ByLevel (now distance) (now queue) (reachedCount (now distance))
-        × SearchTables (length (now distance)) regions (now first) (now targets) (now shapes) (now heights)
+        × SearchTables touch (length (now distance)) regions (now first) (now targets) (now shapes) (now heights)
         ⌝ }
     ensures { λ _. ⌜
         (now (distance .exit) ≡ now (distance .entry))
@@ -93,6 +96,7 @@ pub fn trail_states(
         ⌝ }
 {
     flag_all(
+        touch,
         regions,
         first,
         targets,
@@ -104,6 +108,7 @@ pub fn trail_states(
         steps + 1,
     );
     follow(
+        touch,
         steps,
         start,
         regions,

@@ -1,6 +1,7 @@
 // The least state with a number that a state leads to: scans of its steps that keep the best so far.
 
 ghost use mathlib.Core.Path.{_≡_};
+ghost use mathlib.Core.Bool.{true};
 ghost use Prim.Native.Nat.{_+_, _*_, _%_, _≤_, _<_};
 ghost use lib.ListN.{length, getD};
 ghost use Rattle.limits.specs.Limits.{maxStates, pointCount};
@@ -79,7 +80,7 @@ fn least_point(
 ) -> usize
     requires { ⌜
         (location * regions < length (now distance)) × (v < pointCount)
-        × RegionTables (length (now distance)) regions (now shapes) (now heights)
+        × RegionTables true (length (now distance)) regions (now shapes) (now heights)
         ⌝ }
     ensures { λ r. ⌜
         LeastOf (At (now (distance .entry)) y
@@ -112,7 +113,7 @@ fn least_touched(
 ) -> usize
     requires { ⌜
         (location * regions < length (now distance)) × (i < regions)
-        × RegionTables (length (now distance)) regions (now shapes) (now heights)
+        × RegionTables true (length (now distance)) regions (now shapes) (now heights)
         ⌝ }
     ensures { λ r. ⌜
         LeastOf (At (now (distance .entry)) y
@@ -130,8 +131,9 @@ fn least_touched(
     low
 }
 
-// The least state with y that p leads to by its time and jump steps, the faces and the touch steps, or the number of states.
+// The least state with y that p leads to by its time and jump steps, the faces and with `touch` the touch steps, or the number of states.
 pub fn least_next(
+    touch: bool,
     regions: usize,
     first: &[u32],
     targets: &[Word],
@@ -143,7 +145,7 @@ pub fn least_next(
 ) -> usize
     requires { ⌜
         (p < length (now distance))
-        × SearchTables (length (now distance)) regions (now first) (now targets) (now shapes) (now heights)
+        × SearchTables touch (length (now distance)) regions (now first) (now targets) (now shapes) (now heights)
         ⌝ }
     ensures { λ r. ⌜
         LeastOf (At (now (distance .entry)) y
@@ -155,5 +157,8 @@ pub fn least_next(
     let i = p % regions;
     let a = least_row(first, targets, distance, y, p);
     let b = least_face(regions, shapes, distance, y, location, i, a);
-    least_touched(regions, shapes, heights, distance, y, location, i, b)
+    if touch {
+        return least_touched(regions, shapes, heights, distance, y, location, i, b);
+    }
+    b
 }

@@ -6,6 +6,14 @@ use second::random::Random;
 use second::{Harm, SheetMargin};
 use std::fmt::Debug;
 
+/// A judge with its marks and its evidence writer.
+#[derive(Clone, Copy)]
+pub enum Judge {
+    Full,
+    /// The quicker one, which takes just the plans with a joint reset.
+    Joint,
+}
+
 /// The number of states, where a call gets past refusal 8: the scratch is
 /// left at zero there, whatever the answer is.
 fn past_eight(model: &[u8], lengths: [usize; 4]) -> Option<usize> {
@@ -39,14 +47,27 @@ fn same<T: PartialEq + Debug>(wanted: T, got: T) -> Result<T, String> {
     }
 }
 
-pub fn judge_alike(model: &[u8], lent: &Lent) -> Result<Result<second::Judgement, u8>, String> {
-    let got = call(model, lent, drift::judge)?;
+pub fn judge_alike(
+    judge: Judge,
+    model: &[u8],
+    lent: &Lent,
+) -> Result<Result<second::Judgement, u8>, String> {
+    let (got, wanted) = match judge {
+        Judge::Full => (
+            call(model, lent, drift::judge)?,
+            second::judge(model, lent.lengths()),
+        ),
+        Judge::Joint => (
+            call(model, lent, drift::judge_joint)?,
+            second::judge_joint(model, lent.lengths()),
+        ),
+    };
     let got = got.map(|got| second::Judgement {
         is_unsafe: got.verdict == drift::Verdict::Unsafe,
         states: got.states,
         count: got.count,
     });
-    same(second::judge(model, lent.lengths()), got)
+    same(wanted, got)
 }
 
 pub fn sheet_margin_alike(model: &[u8], lent: &Lent) -> Result<Result<SheetMargin, u8>, String> {
@@ -77,17 +98,25 @@ pub fn soonest_alike(model: &[u8], location: u64, lent: &Lent) -> Result<Result<
     same(second::soonest(model, location, lent.lengths()), got)
 }
 
+/// The marks, or the refusal.
 pub fn marks_alike(
+    judge: Judge,
     model: &[u8],
     lent: &Lent,
     room: usize,
     random: &mut Random,
-) -> Result<(), String> {
+) -> Result<Result<Vec<u8>, u8>, String> {
     let mut wanted_output = Output::new(random, room);
     let mut got_output = wanted_output.clone();
-    let wanted = second::marks(model, lent.lengths(), wanted_output.lent());
+    let wanted = match judge {
+        Judge::Full => second::marks(model, lent.lengths(), wanted_output.lent()),
+        Judge::Joint => second::marks_joint(model, lent.lengths(), wanted_output.lent()),
+    };
     let zeroed = past_eight(model, lent.lengths());
-    let call = |scratch: drift::Scratch| drift::marks(model, scratch, got_output.lent());
+    let call = |scratch: drift::Scratch| match judge {
+        Judge::Full => drift::marks(model, scratch, got_output.lent()),
+        Judge::Joint => drift::marks_joint(model, scratch, got_output.lent()),
+    };
     let got = lent
         .run(call, zeroed)
         .map_err(|error| format!("marks: {error}"))?
@@ -98,11 +127,12 @@ pub fn marks_alike(
     if wanted_output != got_output {
         return Err("marks: outputs differ".into());
     }
-    Ok(())
+    Ok(got.map(|states| got_output.lent()[..states].to_vec()))
 }
 
 /// The verdict (true for unsafe) with the bytes written, or the refusal.
 pub fn write_alike(
+    judge: Judge,
     model: &[u8],
     lent: &Lent,
     room: usize,
@@ -110,11 +140,16 @@ pub fn write_alike(
 ) -> Result<Result<(bool, Vec<u8>), u8>, String> {
     let mut wanted_output = Output::new(random, room);
     let mut got_output = wanted_output.clone();
-    let wanted = second::write_evidence(model, lent.lengths(), wanted_output.lent());
+    let wanted = match judge {
+        Judge::Full => second::write_evidence(model, lent.lengths(), wanted_output.lent()),
+        Judge::Joint => second::write_joint(model, lent.lengths(), wanted_output.lent()),
+    };
     let zeroed = past_eight(model, lent.lengths());
     let model_copy = model.to_vec();
-    let call =
-        |scratch: drift::Scratch| drift::write_evidence(&model_copy, scratch, got_output.lent());
+    let call = |scratch: drift::Scratch| match judge {
+        Judge::Full => drift::write_evidence(&model_copy, scratch, got_output.lent()),
+        Judge::Joint => drift::write_joint(&model_copy, scratch, got_output.lent()),
+    };
     let got = lent
         .run(call, zeroed)
         .map_err(|error| format!("evidence: wanted {wanted:?}, {error}"))?

@@ -7,6 +7,7 @@
 //! With a kind all models are of it.
 
 mod alike;
+mod joint;
 mod memory;
 mod pieces;
 mod plans;
@@ -16,7 +17,8 @@ mod soonest;
 mod tally;
 
 use alike::{check_alike, marks_alike, numbers_alike, write_alike};
-use alike::{harm_alike, judge_alike, sheet_margin_alike};
+use alike::{harm_alike, judge_alike, sheet_margin_alike, Judge};
+use joint::joint_alike;
 use memory::{length_near, rooms, Lent};
 use pieces::{pieces, Others};
 use plans::plans_alike;
@@ -127,11 +129,13 @@ fn agree(
         .map_err(|what| about_model(format!("other mark: {what}")))?;
     let lent = Lent::near(random, states);
     let room = length_near(random, states);
-    marks_alike(model, &lent, room, random).map_err(about_model)?;
+    marks_alike(Judge::Full, model, &lent, room, random).map_err(about_model)?;
+    joint_alike(model, random, states, tally)
+        .map_err(|what| about_model(format!("joint: {what}")))?;
     let (asked, pieces) = pieces(model, random, others);
     for room in rooms(random, asked) {
         let lent = Lent::near(random, states);
-        let written = write_alike(model, &lent, room, random).map_err(about_model)?;
+        let written = write_alike(Judge::Full, model, &lent, room, random).map_err(about_model)?;
         tally.written(&written);
         if let Ok((is_unsafe, bytes)) = written {
             passes(model, &bytes, is_unsafe, &Lent::enough(random, states))?;
@@ -166,7 +170,7 @@ fn answered(
     tally: &mut Tally,
 ) -> Result<(), String> {
     let named = |name: &'static str| move |what: String| format!("{name}: {what}");
-    let judged = judge_alike(model, &Lent::near(random, states)).map_err(named("judge"))?;
+    let judged = judge_alike(Judge::Full, model, &Lent::near(random, states)).map_err(named("judge"))?;
     tally.judged(&judged);
     let lent = Lent::near(random, states);
     tally.margin(&sheet_margin_alike(model, &lent).map_err(named("margin"))?);

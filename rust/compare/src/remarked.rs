@@ -1,7 +1,7 @@
 //! A plan in its other mark: only what a blank stay field means can change, and
 //! with it which edges can open.
 
-use crate::alike::{check_alike, judge_alike, marks_alike, plan_alike, write_alike};
+use crate::alike::{check_alike, judge_alike, marks_alike, plan_alike, write_alike, Judge};
 use crate::memory::Lent;
 use crate::tally::Tally;
 use second::blanks::with_mark;
@@ -22,15 +22,15 @@ pub fn remarked_alike(
         return Ok(());
     };
     let other = with_mark(model, CEILING_MARK + EDGES_MARK - mark).expect("an accepted plan");
-    let verdicts = [model, &other].map(|plan| judge_alike(plan, &Lent::enough(random, states)));
+    let verdicts = [model, &other].map(|plan| judge_alike(Judge::Full, plan, &Lent::enough(random, states)));
     let [one, two] = verdicts;
     let is_unsafe = |judged: Result<Judgement, u8>| judged.map(|judged| judged.is_unsafe);
     tally.remarked(mark, is_unsafe(one?), is_unsafe(two?));
-    marks_alike(&other, &Lent::near(random, states), states, random)?;
+    marks_alike(Judge::Full, &other, &Lent::near(random, states), states, random)?;
     tally.shortened(&other, &plan_alike(&other, other.len(), random)?);
     for (written, asked) in [(model, &other[..]), (&other[..], model)] {
         let lent = Lent::enough(random, states);
-        let Ok((_, evidence)) = write_alike(written, &lent, OUTPUT, random)? else {
+        let Ok((_, evidence)) = write_alike(Judge::Full, written, &lent, OUTPUT, random)? else {
             continue;
         };
         let label = "of the other mark";

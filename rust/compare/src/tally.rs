@@ -2,7 +2,7 @@
 
 use second::dead_links::{has_dead_edge, is_refused_by_all_edges};
 use second::model::Model;
-use second::refusal::{LAST, NEVER_THERE, OUTPUT_TOO_SHORT, SCRATCH_TOO_SHORT};
+use second::refusal::{LAST, NEVER_THERE, NO_JOINT_RESET, OUTPUT_TOO_SHORT, SCRATCH_TOO_SHORT};
 use second::{Harm, Judgement, SheetMargin};
 use std::collections::BTreeMap;
 use std::fmt;
@@ -94,6 +94,15 @@ struct Marked {
     refused: u64,
 }
 
+/// Plans that the quicker judge takes, safe and unsafe, those of them whose
+/// trail without touch is longer than the full judge's, and those refused by 17.
+#[derive(Default)]
+struct Joint {
+    taken: [u64; 2],
+    longer: u64,
+    refused: u64,
+}
+
 /// Accepted plans with edges that can never open, and how many of them
 /// document 01's test on all edges would refuse.
 #[derive(Default)]
@@ -121,6 +130,7 @@ pub struct Tally {
     /// By the mark.
     marked: BTreeMap<u32, Marked>,
     shut: Shut,
+    joint: Joint,
     plans: Plans,
     margins: Margins,
     harms: Harms,
@@ -151,6 +161,18 @@ impl Tally {
         marked.count += 1;
         marked.turned += u64::from(other.is_ok() && own != other);
         marked.refused += u64::from(other.is_err());
+    }
+
+    /// By what the quicker judge and the full one say.
+    pub fn joint(&mut self, answer: &Result<Judgement, u8>, full: &Result<Judgement, u8>) {
+        match (answer, full) {
+            (Ok(judged), Ok(full)) => {
+                self.joint.taken[usize::from(judged.is_unsafe)] += 1;
+                self.joint.longer += u64::from(judged.is_unsafe && full.count < judged.count);
+            }
+            (Err(NO_JOINT_RESET), _) => self.joint.refused += 1,
+            _ => {}
+        }
     }
 
     /// An accepted model by its edges.
@@ -246,6 +268,16 @@ impl fmt::Display for Tally {
             "  with edges that can never open: {}, of which a test on all edges would refuse {}",
             self.shut.count, self.shut.judged_now
         )?;
+        let Joint {
+            taken: [safe, is_unsafe],
+            longer,
+            refused,
+        } = &self.joint;
+        writeln!(
+            f,
+            "  with joint resets: safe {safe}, unsafe {is_unsafe}, of which {longer} have a longer \
+             trail without touch; refused 17: {refused}"
+        )?;
         writeln!(f, "plans in shortest form: {}", self.plans)?;
         let Margins { count, greatest } = &self.margins;
         writeln!(f, "margins: {count}, greatest {greatest}")?;
@@ -266,7 +298,7 @@ impl fmt::Display for Tally {
             self.passed[1], self.passed[2]
         )?;
         for (refusal, count) in self.refused.iter().enumerate().skip(1) {
-            if ![OUTPUT_TOO_SHORT, NEVER_THERE]
+            if ![OUTPUT_TOO_SHORT, NEVER_THERE, NO_JOINT_RESET]
                 .map(usize::from)
                 .contains(&refusal)
             {

@@ -50,6 +50,9 @@ macro_rules! foreign {
 foreign! {
     fn drift_judge(read model, scratch [a, b, c, d]) -> u64;
     fn drift_marks(read model, scratch [a, b, c, d], write out: u8) -> u64;
+    fn drift_judge_joint(read model, scratch [a, b, c, d]) -> u64;
+    fn drift_marks_joint(read model, scratch [a, b, c, d], write out: u8) -> u64;
+    fn drift_write_joint(read model, scratch [a, b, c, d], write out: u8) -> u64;
     fn drift_check_evidence(read model, read evidence, scratch [a, b, c, d]) -> u64;
     fn drift_write_evidence(read model, scratch [a, b, c, d], write out: u8) -> u64;
     fn drift_write_plan(read model, write out: u8) -> u64;

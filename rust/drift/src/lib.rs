@@ -101,18 +101,33 @@ pub enum Harm {
 
 /// The verdict on a plan.
 pub fn judge(model: &[u8], scratch: Scratch) -> Result<Judgement, Refusal> {
-    let answer = accepted(drift_judge(model, scratch))?;
-    Ok(Judgement {
+    accepted(drift_judge(model, scratch)).map(judgement_of)
+}
+
+/// The same, quicker, for a plan with a joint reset: each closed walk of edges
+/// that can open has an edge that resets every clock. `NotJoint` for any other.
+/// The count of an unsafe plan is the steps of our trail without touch.
+pub fn judge_joint(model: &[u8], scratch: Scratch) -> Result<Judgement, Refusal> {
+    accepted(drift_judge_joint(model, scratch)).map(judgement_of)
+}
+
+fn judgement_of(answer: u64) -> Judgement {
+    Judgement {
         verdict: verdict_of(answer),
         states: states_of(answer),
         count: field(answer, COUNT) as usize,
-    })
+    }
 }
 
 /// A mark of 1 or 0 for each state, at the front of the output; the number
 /// of states.
 pub fn marks(model: &[u8], scratch: Scratch, out: &mut [u8]) -> Result<usize, Refusal> {
     accepted(drift_marks(model, scratch, out)).map(states_of)
+}
+
+/// The same marks, quicker, for a plan with a joint reset.
+pub fn marks_joint(model: &[u8], scratch: Scratch, out: &mut [u8]) -> Result<usize, Refusal> {
+    accepted(drift_marks_joint(model, scratch, out)).map(states_of)
 }
 
 /// Whether evidence from anywhere passes for a plan, and of which kind it is.
@@ -130,11 +145,20 @@ pub fn check_evidence(model: &[u8], evidence: &[u8], scratch: Scratch) -> Result
 /// Our sheet or trail for a plan, at the front of the output; the rest of the
 /// output stays as it is, and all of it on a refusal.
 pub fn write_evidence(model: &[u8], scratch: Scratch, out: &mut [u8]) -> Result<Written, Refusal> {
-    let answer = accepted(drift_write_evidence(model, scratch, out))?;
-    Ok(Written {
+    accepted(drift_write_evidence(model, scratch, out)).map(evidence_of)
+}
+
+/// The same, quicker, for a plan with a joint reset: the same sheet, or our
+/// trail without touch.
+pub fn write_joint(model: &[u8], scratch: Scratch, out: &mut [u8]) -> Result<Written, Refusal> {
+    accepted(drift_write_joint(model, scratch, out)).map(evidence_of)
+}
+
+fn evidence_of(answer: u64) -> Written {
+    Written {
         verdict: verdict_of(answer),
         bytes: written_of(answer),
-    })
+    }
 }
 
 /// The shortest form of a plan, at the front of the output, and how many bytes

@@ -3,7 +3,7 @@
 use std::error::Error;
 use std::fmt;
 
-/// A refusal of document 01, or 15 or 16 of document 02, by its number there.
+/// A refusal of document 01, or 15 to 17 of document 02, by its number there.
 #[derive(Clone, Copy, Debug, PartialEq, Eq, PartialOrd, Ord, Hash)]
 #[repr(u8)]
 pub enum Refusal {
@@ -23,13 +23,14 @@ pub enum Refusal {
     EndsOrdinary,
     Padded,
     Unreached,
+    NotJoint,
 }
 
 use Refusal::*;
 
 impl Refusal {
     /// All of them, in the order of their numbers from 1 on.
-    pub const ALL: [Refusal; 16] = [
+    pub const ALL: [Refusal; 17] = [
         EndsTooSoon,
         NumberTooLong,
         BadHeader,
@@ -46,9 +47,10 @@ impl Refusal {
         EndsOrdinary,
         Padded,
         Unreached,
+        NotJoint,
     ];
 
-    /// 1 to 16.
+    /// 1 to 17.
     pub fn number(self) -> u8 {
         self as u8
     }
@@ -71,6 +73,7 @@ impl Refusal {
             EndsOrdinary => "the trail ends in an ordinary location",
             Padded => "a number of the evidence is not in shortest form",
             Unreached => "no run with perfect clocks gets to the location, or there is none",
+            NotJoint => "a loop of edges has none that resets every clock",
         }
     }
 }
@@ -121,12 +124,12 @@ mod tests {
             assert_eq!(refusal.number(), at);
             assert_eq!(Refusal::try_from(at), Ok(refusal));
         }
-        for other in [0, 17, 255] {
+        for other in [0, 18, 255] {
             assert_eq!(Refusal::try_from(other), Err(NoRefusal(other)));
         }
         assert_eq!(
-            NoRefusal(17).to_string(),
-            "17 is no refusal; they are numbered 1 to 16"
+            NoRefusal(18).to_string(),
+            "18 is no refusal; they are numbered 1 to 17"
         );
     }
 

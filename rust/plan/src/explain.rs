@@ -2,6 +2,7 @@
 
 use crate::bytes::encode;
 use crate::flaw::{Flaw, Numbers};
+use crate::loops::{disjoint_loops, uncounted_words};
 use crate::sheet::read_sheet;
 use crate::trail::read_trail;
 use crate::{Plan, CEILING_MARK, EDGES_MARK};
@@ -10,7 +11,8 @@ use second::limits::{MAX_CEILING, MAX_CLOCKS, MAX_EDGES, MAX_LOCATIONS};
 use second::numbers::shortest;
 use second::program::SCRATCH;
 use second::refusal::{
-    Refusal, BAD_HEADER, LAST, NEVER_THERE, NO_EVIDENCE, OUTPUT_TOO_SHORT, SCRATCH_TOO_SHORT,
+    Refusal, BAD_HEADER, LAST, NEVER_THERE, NO_EVIDENCE, NO_JOINT_RESET, OUTPUT_TOO_SHORT,
+    SCRATCH_TOO_SHORT,
 };
 use second::sheet::{greatest_number, SHEET};
 use second::trail::TRAIL;
@@ -106,6 +108,13 @@ const REFUSALS: [(&str, &str); LAST as usize] = [
          Locations are numbered from 0. Where there is such a location, it takes drift to get \
          there, or not even slight drift gets there.",
     ),
+    (
+        "a loop of edges has none that resets every clock",
+        "The quicker calls alone say so, and the plan is not at fault: they take plans in which \
+         whoever walks along edges that can open, back to where he began, passes one that resets \
+         every clock at once. Edges that reset all clocks only together are not enough. The full \
+         judge takes every plan.",
+    ),
 ];
 
 fn header_advice() -> String {
@@ -153,6 +162,7 @@ pub fn about(number: Refusal, plan: Result<&Plan, &Flaw>, evidence: Option<&[u8]
                  {locations}; zervuldo soonest tells which of them have a least time\n"
             )
         }
+        (NO_JOINT_RESET, _) => joint_words(plan),
         (_, None) if number > OUTPUT_TOO_SHORT => {
             "here: the plan is read without a flaw; give the evidence too, since this refusal \
              is about it\n"
@@ -168,6 +178,25 @@ pub fn about(number: Refusal, plan: Result<&Plan, &Flaw>, evidence: Option<&[u8]
             }
         },
     }
+}
+
+/// A loop without a joint reset, if there is one.
+fn joint_words(plan: &Plan) -> String {
+    let Some(found) = disjoint_loops(plan).into_iter().next() else {
+        return "here: each loop of edges that can open has one that resets every clock, so the \
+                quicker calls take this plan\n"
+            .to_string();
+    };
+    let edges: Vec<String> = found.iter().map(|&at| plan.edge_title(at)).collect();
+    let (none, each) = match edges.len() {
+        1 => ("", "does not reset every clock, and it"),
+        _ => ("none of ", "resets every clock, and each of them"),
+    };
+    format!(
+        "here: {none}{} {each} can open{}\n",
+        edges.join(", "),
+        uncounted_words(plan)
+    )
 }
 
 /// The most bytes of a sheet: a mark, then the longest number for each state.

@@ -1,12 +1,23 @@
-//! Loops of edges that leave a clock unreset (refusal 7).
+//! Loops of edges that leave a clock unreset (refusal 7), or have no edge that
+//! resets every clock (refusal 17).
 
 use crate::{Edge, Plan};
 
-/// Loops of edges that can open alone, without a reset of the clock, no two of
-/// which share an edge, shortest first. None is left once these are mended or
-/// taken away.
+/// Loops of edges that can open alone, without a reset of the clock.
 pub fn unreset_loops(plan: &Plan, clock: usize) -> Vec<Vec<usize>> {
-    let counts = |edge: &Edge| edge.resets >> clock & 1 == 0 && plan.opens_alone(edge);
+    loops(plan, |edge| edge.resets >> clock & 1 == 0)
+}
+
+/// Loops of edges that can open alone, none of which resets every clock.
+pub fn disjoint_loops(plan: &Plan) -> Vec<Vec<usize>> {
+    let every_clock = (1 << plan.clocks.len()) - 1;
+    loops(plan, |edge| edge.resets != every_clock)
+}
+
+/// Loops of such edges among those that can open alone, no two of which share
+/// an edge, shortest first. None is left once these are mended or taken away.
+fn loops(plan: &Plan, is_such: impl Fn(&Edge) -> bool) -> Vec<Vec<usize>> {
+    let counts = |edge: &Edge| is_such(edge) && plan.opens_alone(edge);
     let edges = 0..plan.edges.len();
     let mut kept: Vec<usize> = edges.filter(|&at| counts(&plan.edges[at])).collect();
     let mut found = Vec::new();
@@ -100,6 +111,19 @@ mod tests {
         assert_eq!(unreset_loops(&all, 1), [vec![1, 2]]);
         let one = plan(&[2; 3], &edges[3..4]);
         assert_eq!(unreset_loops(&one, 1), Vec::<Vec<usize>>::new());
+    }
+
+    /// The edges of the first loop reset both clocks together, but none alone.
+    #[test]
+    fn loops_without_a_joint_reset() {
+        let there = |second: u8, third: u8| {
+            let edges = [edge(0, 1, 1, 0), edge(1, 0, second, 0), edge(1, 1, 3, third)];
+            disjoint_loops(&plan(&[2, 1], &edges))
+        };
+        assert_eq!(there(2, 0), [vec![0, 1]]);
+        assert_eq!(there(3, 0), Vec::<Vec<usize>>::new());
+        assert_eq!(there(3, 2), Vec::<Vec<usize>>::new());
+        assert_eq!(disjoint_loops(&plan(&[2], &[])), Vec::<Vec<usize>>::new());
     }
 
     /// An edge that can never open is in no loop, and hides none.

@@ -11,14 +11,14 @@ use second::mutate::mutate;
 #[test]
 fn every_refusal_is_explained() {
     let mut seen = std::collections::BTreeSet::new();
-    for number in 1..=16 {
+    for number in 1..=17 {
         let words = refusal_words(number).unwrap();
         assert!(words.starts_with(&format!("refused {number}: ")));
         assert!(words.lines().count() == 2 && words.ends_with(".\n"));
         seen.insert(words);
     }
-    assert_eq!(seen.len(), 16);
-    assert_eq!((refusal_words(0), refusal_words(17)), (None, None));
+    assert_eq!(seen.len(), 17);
+    assert_eq!((refusal_words(0), refusal_words(18)), (None, None));
 }
 
 #[test]

@@ -16,6 +16,9 @@ pub struct Facts {
     pub model: Vec<u8>,
     /// The number of states (S), by the proved judge.
     pub states: usize,
+    /// Whether the quicker judge took the plan: each loop that counts has an
+    /// edge that resets every clock. Then our trail has no touch.
+    pub is_joint: bool,
     pub finding: Finding,
     /// Our sheet or trail, which passed the proved check.
     pub evidence: Vec<u8>,
@@ -54,7 +57,7 @@ pub struct Safe {
 
 #[derive(Clone, Debug)]
 pub struct Unsafe {
-    /// The steps of our trail, by the proved judge.
+    /// The steps of our trail, by the proved judge that took the plan.
     pub steps: usize,
     /// The forbidden location that our trail enters.
     pub location: usize,

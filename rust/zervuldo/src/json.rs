@@ -102,6 +102,7 @@ pub fn facts_json(facts: &Facts, evidence: Option<&str>) -> Json {
         ("evidence", evidence_json(facts, evidence)),
         ("warnings", Json::List(warnings.collect())),
         ("mark", Json::number(plan.mark)),
+        ("joint", Json::Bool(facts.is_joint)),
     ]);
     Json::Object(fields)
 }

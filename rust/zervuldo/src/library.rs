@@ -1,6 +1,6 @@
 //! The proved library, with scratch of its own that is enough for every plan.
 
-use drift::{Buffers, Harm, Judgement, Kind, Refusal, SheetMargin, MOST_STATES};
+use drift::{Buffers, Harm, Judgement, Kind, Refusal, SheetMargin, Written, MOST_STATES};
 
 /// Room for evidence at first, and the most that is tried: more than any plan
 /// of document 01 was seen to need by far.
@@ -9,6 +9,14 @@ const MOST_ROOM: usize = 1 << 28;
 
 pub struct Library {
     buffers: Buffers,
+}
+
+/// A verdict, and whether it is the quicker judge's, which takes just the plans
+/// with a joint reset.
+#[derive(Clone, Copy, Debug, PartialEq, Eq)]
+pub struct Judged {
+    pub judgement: Judgement,
+    pub is_joint: bool,
 }
 
 impl Default for Library {
@@ -20,19 +28,35 @@ impl Default for Library {
 }
 
 impl Library {
-    pub fn judge(&mut self, model: &[u8]) -> Result<Judgement, Refusal> {
-        drift::judge(model, self.buffers.lend())
+    /// By the quicker judge where it serves.
+    pub fn judge(&mut self, model: &[u8]) -> Result<Judged, Refusal> {
+        let (judgement, is_joint) = match drift::judge_joint(model, self.buffers.lend()) {
+            Err(Refusal::NotJoint) => (drift::judge(model, self.buffers.lend()), false),
+            answer => (answer, true),
+        };
+        judgement.map(|judgement| Judged {
+            judgement,
+            is_joint,
+        })
     }
 
     pub fn check(&mut self, model: &[u8], evidence: &[u8]) -> Result<Kind, Refusal> {
         drift::check_evidence(model, evidence, self.buffers.lend())
     }
 
-    /// Our evidence, in as much room as it needs.
+    /// Our evidence, by the quicker writer where it serves.
+    fn write(&mut self, model: &[u8], out: &mut [u8]) -> Result<Written, Refusal> {
+        match drift::write_joint(model, self.buffers.lend(), out) {
+            Err(Refusal::NotJoint) => drift::write_evidence(model, self.buffers.lend(), out),
+            answer => answer,
+        }
+    }
+
+    /// The same in as much room as it needs.
     pub fn evidence(&mut self, model: &[u8]) -> Result<Vec<u8>, Refusal> {
         let mut out = vec![0; ROOM];
         loop {
-            match drift::write_evidence(model, self.buffers.lend(), &mut out) {
+            match self.write(model, &mut out) {
                 Ok(written) => {
                     out.truncate(written.bytes);
                     return Ok(out);
@@ -48,7 +72,10 @@ impl Library {
     /// A mark of 1 or 0 for each state.
     pub fn marks(&mut self, model: &[u8]) -> Result<Vec<u8>, Refusal> {
         let mut out = vec![0; MOST_STATES];
-        let states = drift::marks(model, self.buffers.lend(), &mut out)?;
+        let states = match drift::marks_joint(model, self.buffers.lend(), &mut out) {
+            Err(Refusal::NotJoint) => drift::marks(model, self.buffers.lend(), &mut out),
+            answer => answer,
+        }?;
         out.truncate(states);
         Ok(out)
     }

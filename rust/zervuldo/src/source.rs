@@ -86,7 +86,8 @@ impl Source {
     /// All that is known of the plan.
     pub fn facts(&self, library: &mut Library) -> Result<Facts, Failure> {
         let accepted = self.accepted()?;
-        let judgement = self.proved(library.judge(&accepted.model))?;
+        let judged = self.proved(library.judge(&accepted.model))?;
+        let judgement = judged.judgement;
         let evidence = self.evidence(library, &accepted, judgement.verdict)?;
         let marks = self.proved(library.marks(&accepted.model))?;
         let finding = match judgement.verdict {
@@ -107,6 +108,7 @@ impl Source {
         Ok(Facts {
             title: self.title.clone(),
             states: judgement.states,
+            is_joint: judged.is_joint,
             finding,
             evidence,
             warnings: found,
@@ -125,11 +127,11 @@ impl Source {
             mark: CEILING_MARK,
             ..plan.clone()
         };
-        let judgement = match library.judge(&encode(&plan)) {
+        let judged = match library.judge(&encode(&plan)) {
             Err(Refusal::ClockUnreset) => return Ok(Some(Warning::AcceptedByMark)),
             answer => self.proved(answer)?,
         };
-        let is_unsafe = judgement.verdict == Verdict::Unsafe;
+        let is_unsafe = judged.judgement.verdict == Verdict::Unsafe;
         Ok(is_unsafe.then_some(Warning::SafeByMark))
     }
 

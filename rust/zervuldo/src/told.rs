@@ -40,6 +40,7 @@ pub fn told(facts: &Facts, evidence: Option<String>) -> String {
         Finding::Safe(safe) => safe_lines(facts, safe),
         Finding::Unsafe(danger) => danger_lines(facts, danger),
     };
+    lines.extend(joint_words(facts).map(|words| ("judge", words.to_string())));
     let mark = mark_words(&facts.plan);
     lines.extend(mark.map(|words| ("mark", words.to_string())));
     lines.extend(evidence.map(|words| ("evidence", words)));
@@ -79,6 +80,23 @@ pub fn mark_words(plan: &Plan) -> Option<&'static str> {
     (plan.mark == EDGES_MARK).then_some(words)
 }
 
+/// Which judge took the plan, where it is the quicker one, and what that means.
+pub fn joint_words(facts: &Facts) -> Option<&'static str> {
+    let words = "the quicker one: each loop that can be gone has an edge that resets every clock, \
+                 so slight drift enters no location that perfect clocks do not";
+    facts.is_joint.then_some(words)
+}
+
+/// How long our trail is, and where it leads.
+pub fn trail_words(facts: &Facts, danger: &Unsafe) -> String {
+    let place = facts.plan.quoted(danger.location);
+    let touch = match facts.is_joint {
+        true => ", the fewest without touch",
+        false => "",
+    };
+    format!("{} steps into {place}{touch}", danger.steps)
+}
+
 /// What the margin of a safe plan means.
 pub fn safe_words(safe: &Safe) -> String {
     format!(
@@ -93,7 +111,7 @@ fn danger_lines(facts: &Facts, danger: &Unsafe) -> Vec<Line> {
     let mut lines = vec![
         ("meaning", danger_words(&danger.perfect, &place)),
         ("states", facts.states.to_string()),
-        ("trail", format!("{} steps into {place}", danger.steps)),
+        ("trail", trail_words(facts, danger)),
         ("perfect clocks", perfect_words(plan, &danger.perfect)),
         ("harm", harm_words(plan, danger)),
     ];

@@ -52,7 +52,7 @@ fn follow(plan: &Plan, example: &Example) {
 /// library says of the jumps before harm.
 fn example_of(library: &mut Library, plan: Plan) -> Option<(Plan, Example, Harm)> {
     let model = encode(&plan);
-    let judgement = library.judge(&model).unwrap();
+    let judgement = library.judge(&model).unwrap().judgement;
     let accepted = Accepted { plan, model };
     let perfect = perfect(library, &accepted).unwrap();
     if judgement.verdict == Verdict::Safe || perfect != Perfect::Clean {

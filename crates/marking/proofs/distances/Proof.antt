@@ -16,7 +16,7 @@ use Rattle.marking.proofs.distances.Statement.{statement}
 use Rattle.marking.proofs.distances.Tie as tie
 
 abbrev Inv-loop : tie.InvT-loop
-Inv-loop start regions first targets shapes heights distance₀ queue₀ visited₀ x₀ lo₀ hi₀ distance queue visited x lo hi =
+Inv-loop touch start regions first targets shapes heights distance₀ queue₀ visited₀ x₀ lo₀ hi₀ distance queue visited x lo hi =
     (length distance ≡ length distance₀)
     × (length queue ≡ length queue₀)
     × (length visited ≡ length visited₀)
@@ -24,7 +24,7 @@ Inv-loop start regions first targets shapes heights distance₀ queue₀ visited
     × Visits regions (cornersIn regions shapes) heights visited distance
 
 abbrev μ-loop : tie.MeasureT-loop
-μ-loop start regions first targets shapes heights distance₀ queue₀ visited₀ x₀ lo₀ hi₀ distance queue visited x lo hi = length distance₀ - lo
+μ-loop touch start regions first targets shapes heights distance₀ queue₀ visited₀ x₀ lo₀ hi₀ distance queue visited x lo hi = length distance₀ - lo
 
 pub distances-spec : {M : Type 1} → statement M
 distances-spec =
@@ -58,7 +58,7 @@ distances-spec =
     let f : length (l .distance) ≡ length (c .before .before .before .before .before .before .before .before .before .before .before .before .before .before .before .before .before .before .before .before .before .before .before .before .before .before .before .args .distance .now) = l .inv .0 ∙ simp length-set (c .before .before .before .before .before .before .before .before .before .before .before .before .before .before .before .before .before .before .clear .kept .0) in
     let g : length (l .visited) ≡ length (c .before .before .before .before .before .before .before .before .before .before .before .before .before .before .before .before .before .before .before .before .before .before .before .before .before .before .before .args .visited .now) = l .inv .2 ∙ c .before .before .before .before .before .before .before .before .before .before .before .before .before .before .clear-bytes .kept .0 in
     let t = c .before .before .before .before .before .before .round in
-    (t .kept .1 .1 .1 .1 .1 .0 ∙ l .inv .0, t .kept .1 .1 .1 .1 .1 .1 .0 ∙ l .inv .1, t .kept .1 .1 .1 .1 .1 .1 .1 .0 ∙ l .inv .2, searched-next (l .inv .3) (t .ensures .all) (omega arith), t .ensures .visits))
+    (t .kept .1 .1 .1 .1 .1 .1 .0 ∙ l .inv .0, t .kept .1 .1 .1 .1 .1 .1 .1 .0 ∙ l .inv .1, t .kept .1 .1 .1 .1 .1 .1 .1 .1 .0 ∙ l .inv .2, searched-next (l .inv .3) (t .ensures .all) (omega arith), t .ensures .visits))
     (λ c. omega (arith, c .before .loop .inv .3 .some))
     (λ c.
     let l = c .before .loop in
@@ -75,4 +75,4 @@ distances-spec =
     let l = c .before .loop in
     let f : length (l .distance) ≡ length (c .before .before .before .before .before .before .before .before .before .before .before .before .before .before .before .before .before .args .distance .now) = l .inv .0 ∙ simp length-set (c .before .before .before .before .before .before .before .before .clear .kept .0) in
     let g : length (l .visited) ≡ length (c .before .before .before .before .before .before .before .before .before .before .before .before .before .before .before .before .before .args .visited .now) = l .inv .2 ∙ c .before .before .before .before .clear-bytes .kept .0 in
-    searched-end (rw f (c .before .before .before .before .before .before .before .before .before .before .before .before .before .before .before .before .before .pre .2 .tables)) (l .inv .3) (omega arith)))
+    searched-end (rw (← f) at (c .before .before .before .before .before .before .before .before .before .before .before .before .before .before .before .before .before .pre .2 .tables)) (l .inv .3) (omega arith)))

@@ -14,7 +14,7 @@ use Rattle.marking.proofs.round.Statement.{statement}
 use Rattle.marking.proofs.round.Tie as tie
 
 abbrev Inv-loop : tie.InvT-loop
-Inv-loop regions first targets shapes heights distance₀ queue₀ visited₀ x lo hi n₀ i₀ distance queue visited n i =
+Inv-loop touch regions first targets shapes heights distance₀ queue₀ visited₀ x lo hi n₀ i₀ distance queue visited n i =
     (lo ≤ i)
     × (i ≤ hi)
     × (length visited ≡ length visited₀)
@@ -23,7 +23,7 @@ Inv-loop regions first targets shapes heights distance₀ queue₀ visited₀ x 
     × Visits regions (cornersIn regions shapes) heights visited distance
 
 abbrev μ-loop : tie.MeasureT-loop
-μ-loop regions first targets shapes heights distance₀ queue₀ visited₀ x lo hi n₀ i₀ distance queue visited n i = hi - i
+μ-loop touch regions first targets shapes heights distance₀ queue₀ visited₀ x lo hi n₀ i₀ distance queue visited n i = hi - i
 
 pub round-spec : {M : Type 1} → statement M
 round-spec =
@@ -52,7 +52,7 @@ round-spec =
     let l = c .before .before .before .before .before .before .before .before .before .before .before .before .before .loop in
     let t = c .before .before .before .before .before .before .spread in
     let e : c .before .before .before .before .before .before .before .before .before .before .from-word .result ≡ getD (c .before .before .before .before .before .before .before .before .before .before .before .before .before .before .before .before .before .before .before .before .before .args .queue .now) (l .i) 0 = c .before .before .before .before .before .before .before .before .before .before .from-word .ensures ∙ l .inv .3 .takes .kept (l .i) (omega arith) in
-    (omega arith, omega arith, t .kept .1 .1 .1 .1 .1 .1 .1 .0 ∙ l .inv .2, between-turn (l .inv .3) (l .inv .0) (omega arith) (rw e at (t .ensures .all)), t .ensures .visits))
+    (omega arith, omega arith, t .kept .1 .1 .1 .1 .1 .1 .1 .1 .0 ∙ l .inv .2, between-turn (l .inv .3) (l .inv .0) (omega arith) (rw e at (t .ensures .all)), t .ensures .visits))
     (λ c. c .before .loop .inv .3 .takes .long)
     (λ c. takes-queue (c .before .loop .inv .3 .takes) (c .before .before .before .before .before .before .before .before .before .pre .2 .fits))
     (λ c. c .before .loop .inv .2)

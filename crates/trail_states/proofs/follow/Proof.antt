@@ -11,14 +11,14 @@ use Rattle.trail_states.proofs.follow.Statement.{statement}
 use Rattle.trail_states.proofs.follow.Tie as tie
 
 abbrev Inv-loop : tie.InvT-loop
-Inv-loop steps start regions first targets shapes heights distance path₀ p₀ i₀ path p i =
+Inv-loop touch steps start regions first targets shapes heights distance path₀ p₀ i₀ path p i =
     (i ≤ steps)
     × (p < length distance)
     × (length path ≡ length path₀)
     × Follows (Successor regions first targets shapes heights) start steps distance path i p
 
 abbrev μ-loop : tie.MeasureT-loop
-μ-loop steps start regions first targets shapes heights distance path₀ p₀ i₀ path p i = steps - i
+μ-loop touch steps start regions first targets shapes heights distance path₀ p₀ i₀ path p i = steps - i
 
 pub follow-spec : {M : Type 1} → statement M
 follow-spec =

@@ -26,9 +26,9 @@ trail-states-spec =
     let F = c .before .before .before .before .before .before .before .before .before .before .before .flag-all .ensures (s .args .start) in
     let E = c .before .before .clear-flags .ensures (s .args .distance .now) (level-small (s .pre .4)) (F .raised) in
     ap length E)
-    (λ c. c .before .before .before .before .before .before .follow .kept .1 .1 .1 .1 .1 .1 .1 .1 .0)
+    (λ c. c .before .before .before .before .before .before .follow .kept .1 .1 .1 .1 .1 .1 .1 .1 .1 .0)
     (λ c.
     let s = c .before .before .before .before .before .before .before .before .before .before .before .before .before .before .before .before .before .before .before .before .before in
     let F = c .before .before .before .before .before .before .before .before .before .before .before .flag-all .ensures (s .args .start) in
     let E = c .before .before .clear-flags .ensures (s .args .distance .now) (level-small (s .pre .4)) (F .raised) in
-    (E, λ Y K. trail-is K (c .before .before .before .before .before .before .follow .last .1 .1 .1 .1 .1 .1 .1 .1 .0) (F .raised .long) (c .before .before .before .before .before .before .follow .ensures (step Y) (Y .forbidden) (steered-of F refl (step Y) (Y .forbidden) (told-aims K (s .pre .5 .tables) (s .pre .0)))))))
+    (E, λ Y K. trail-is K (c .before .before .before .before .before .before .follow .last .1 .1 .1 .1 .1 .1 .1 .1 .1 .0) (F .raised .long) (c .before .before .before .before .before .before .follow .ensures (step Y) (Y .forbidden) (steered-of F refl (step Y) (Y .forbidden) (told-aims K (s .pre .5 .tables) (s .pre .0)))))))

@@ -11,7 +11,7 @@ use plan::input::content_of;
 pub const COMMAND: Command = Command {
     name: "explain",
     summary: "a refusal in words, and where it is",
-    details: "NUMBER is the number of the refusal, 1 to 16. With a plan, and evidence for \
+    details: "NUMBER is the number of the refusal, 1 to 17. With a plan, and evidence for \
               it, the place is shown too.",
     takes: Takes {
         operands: "NUMBER [PLAN [EVIDENCE]]",

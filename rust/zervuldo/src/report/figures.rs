@@ -3,7 +3,9 @@
 use super::html::{code, element, paragraph, section, Html};
 use super::trail;
 use crate::facts::{Facts, Finding, Perfect, Safe, Unsafe};
-use crate::told::{example_words, harm_words, mark_words, perfect_words, safe_words};
+use crate::told::{
+    example_words, harm_words, joint_words, mark_words, perfect_words, safe_words, trail_words,
+};
 use crate::units::{drift_words, grouped, margin_words, Window};
 use plan::units::Quantity;
 use plan::Plan;
@@ -24,6 +26,7 @@ pub fn figures(facts: &Facts) -> Html {
         Finding::Safe(safe) => safe_rows(facts, safe),
         Finding::Unsafe(danger) => danger_rows(facts, danger),
     };
+    rows.extend(joint_words(facts).map(|words| ("Judge", words.to_string(), PROVED)));
     rows.extend(mark_words(plan).map(|words| ("Mark", words.to_string(), GIVEN)));
     let unit = plan.units.unit.map(|unit| Quantity::Unit.written(unit));
     rows.extend(unit.map(|unit| ("One unit", unit, GIVEN)));
@@ -43,8 +46,7 @@ fn safe_rows(facts: &Facts, safe: &Safe) -> Vec<Row> {
 
 fn danger_rows(facts: &Facts, danger: &Unsafe) -> Vec<Row> {
     let plan = &facts.plan;
-    let place = plan.quoted(danger.location);
-    let mut shortest = format!("{} steps into {place}", danger.steps);
+    let mut shortest = trail_words(facts, danger);
     let harm = match danger.perfect {
         Perfect::FailsToo { .. } => BY_TRAIL,
         Perfect::Clean => PROVED,

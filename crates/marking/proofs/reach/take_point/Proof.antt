@@ -1,6 +1,6 @@
 -- `marking::reach::take_point` meets its contract. The invariant: what is left stands on the chain from `next`, whose slots fall.
 use Prim.Native.Nat.{suc, _*_, _-_, _<_}
-use mathlib.Core.Path.{_≡_, sym, _∙_}
+use mathlib.Core.Path.{_≡_, refl, sym, _∙_}
 use mathlib.Core.Logic.{inr}
 use native.Mathlib.Omega.{arith}
 use lib.ListN.{length, getD}
@@ -41,7 +41,7 @@ take-point-spec =
     let T = p .3 in
     let b : a .v < length (headsIn (a .regions) (a .shapes .now)) = omega (arith, heads-long (a .regions) (a .shapes .now) (T .faces .long)) in
     let e : c .from-word .result ≡ getD (headsIn (a .regions) (a .shapes .now)) (a .v) 0 = c .from-word .ensures ∙ rw (c .before .before .heads-at .ensures) (head-at (a .regions) (a .shapes .now) (T .faces .long) (a .v) (p .2)) in
-    rw e (point-first (T .chains) (a .v) b, record { takes = takes-none (p .4); left = λ q t. inr (point-all (T .chains) (a .v) b q t) }))
+    rw e (point-first (T .chains refl) (a .v) b, record { takes = takes-none (p .4); left = λ q t. inr (point-all (T .chains refl) (a .v) b q t) }))
     (λ c. search needs)
     (λ c.
     let l = c .before .loop in

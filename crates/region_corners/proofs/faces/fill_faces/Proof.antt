@@ -93,7 +93,10 @@ same-length c = c .before .loop .inv .long ∙ sym (start (c .before) .pre .4)
 returns : tie.Need-returns Inv-loop μ-loop
 returns c =
     let p = start (c .before) .pre in
-    laying-end (p .0) (p .1) (p .3) (c .before .loop .inv) (omega (arith, entries (start (c .before))))
+    record {
+      long = c .before .loop .inv .long;
+      face = laying-end (p .0) (p .1) (p .3) (c .before .loop .inv) (omega (arith, entries (start (c .before))));
+    }
 
 pub fill-faces-spec : {M : Type 1} → statement M
 fill-faces-spec =

@@ -12,11 +12,11 @@ use Rattle.trail_states.proofs.flags.flag_all.Statement.{statement}
 use Rattle.trail_states.proofs.flags.flag_all.Tie as tie
 
 abbrev Inv-loop : tie.InvT-loop
-Inv-loop regions first targets shapes heights kind distance₀ queue x i₀ distance i =
+Inv-loop touch regions first targets shapes heights kind distance₀ queue x i₀ distance i =
     (start : ℕ) → Flagging (Successor regions first targets shapes heights) (λ z. getD kind (z / regions) 0 ≡ 1) start x distance₀ queue (reachedCount distance₀) i distance
 
 abbrev μ-loop : tie.MeasureT-loop
-μ-loop regions first targets shapes heights kind distance₀ queue x i₀ distance i = i
+μ-loop touch regions first targets shapes heights kind distance₀ queue x i₀ distance i = i
 
 pub flag-all-spec : {M : Type 1} → statement M
 flag-all-spec =

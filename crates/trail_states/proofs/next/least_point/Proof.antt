@@ -42,7 +42,7 @@ least-point-spec =
     let T = p .2 in
     let b : a .v < length (headsIn (a .regions) (a .shapes .now)) = omega (arith, heads-long (a .regions) (a .shapes .now) (T .faces .long)) in
     let e : c .from-word .result ≡ getD (headsIn (a .regions) (a .shapes .now)) (a .v) 0 = c .from-word .ensures ∙ rw (c .before .before .heads-at .ensures) (head-at (a .regions) (a .shapes .now) (T .faces .long) (a .v) (p .1)) in
-    rw e (point-first (T .chains) (a .v) b, record { less = omega arith; some = inl refl; left = λ q t. inr (record { has = t .has; is = point-all (T .chains) (a .v) b q (t .is) }) }))
+    rw e (point-first (T .chains refl) (a .v) b, record { less = omega arith; some = inl refl; left = λ q t. inr (record { has = t .has; is = point-all (T .chains refl) (a .v) b q (t .is) }) }))
     (λ c. search needs)
     (λ c.
     let l = c .before .loop in
