@@ -14,7 +14,7 @@ use model::Model;
 fn counted(m: Model, s1: &mut [Word], s2: &mut [Word], s3: &mut [Word], s4: &mut [Word]) -> Answer
     requires { ⌜ Lawful m × Scratch (states m) (now s1) (now s2) (now s3) (now s4) ⌝ }
 {
-    let rounds = survey::survey(m, s1, s2, s3, s4);
+    let rounds = survey::survey(m, true, s1, s2, s3, s4);
     Answer::Two(from_word(rounds), marking::count_marked(s2))
 }
 

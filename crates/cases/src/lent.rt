@@ -105,8 +105,8 @@ fn show_bytes(out: &Output, n: usize, commas: bool) {
 // The n bytes of the output, where an operation has one: marks together, evidence and plans with commas.
 pub fn show_output(operation: Operation, out: &Output, n: usize) {
     match operation {
-        Operation::Marks => show_bytes(out, n, false),
-        Operation::Write | Operation::Plan => show_bytes(out, n, true),
+        Operation::Marks | Operation::MarksJoint => show_bytes(out, n, false),
+        Operation::Write | Operation::WriteJoint | Operation::Plan => show_bytes(out, n, true),
         _ => {}
     }
 }

@@ -1,9 +1,9 @@
-// Cases of the public operations as data. On standard input a line that begins with '-' announces a plan, whose bytes stand on the next line, set apart
-// by commas as 01 writes them. Each line after it is a case of that plan: `judge`, `marks`, `write`, `plan`, `sheet_margin` and `harm` with the lengths of
-// what they are lent, `soonest` with a location and then the lengths, `margin`, `rounds`, or else the bytes of a piece of evidence, an empty line too. A
-// line that begins with '#' is a comment. All but the plans' bytes is written back, a case with its answer behind it: 01's number and values; how many
-// numbers of each scratch slice are zero then; and the output. `rounds` is no public operation: its values are the rounds of the marking and the marked
-// states.
+// Cases of the public operations as data. On standard input a line that begins with '-' announces a plan, whose bytes stand on the next line, set
+// apart by commas as 01 writes them. Each line after it is a case of that plan: `judge`, `marks`, `write`, the same with `_joint` behind them,
+// `plan`, `sheet_margin` and `harm` with the lengths of what they are lent, `soonest` with a location and then the lengths, `margin`, `rounds`, or
+// else the bytes of a piece of evidence, an empty line too. A line that begins with '#' is a comment. All but the plans' bytes is written back, a
+// case with its answer behind it: 01's number and values; how many numbers of each scratch slice are zero then; and the output. `rounds` is no public
+// operation: its values are the rounds of the marking and the marked states.
 mod answers;
 mod counting;
 mod lent;
@@ -80,6 +80,9 @@ fn call(
     match operation {
         Operation::Marks => of_marking(drift::marks(plan, s1, s2, s3, s4, out)),
         Operation::Write => of_written(drift::write_evidence(plan, s1, s2, s3, s4, out)),
+        Operation::JudgeJoint => of_judgement(drift::judge_joint(plan, s1, s2, s3, s4)),
+        Operation::MarksJoint => of_marking(drift::marks_joint(plan, s1, s2, s3, s4, out)),
+        Operation::WriteJoint => of_written(drift::write_joint(plan, s1, s2, s3, s4, out)),
         Operation::SheetMargin => of_bound(drift::sheet_margin(plan, s1, s2, s3, s4)),
         Operation::Harm => of_onset(drift::harm(plan, s1, s2, s3, s4)),
         Operation::Soonest => of_arrival(drift::soonest(plan, location, s1, s2, s3, s4)),
@@ -132,10 +135,12 @@ fn answer(plan: &[u8], line: &[u8]) {
         Operation::Check => check(plan, line),
         Operation::Plan => shorten(plan, line),
         Operation::Rounds => show_answer(rounds(plan)),
-        Operation::Judge | Operation::SheetMargin | Operation::Harm => {
-            run(operation, plan, line, 1)
-        }
-        Operation::Marks | Operation::Write | Operation::Soonest => run(operation, plan, line, 2),
+        Operation::Marks
+        | Operation::MarksJoint
+        | Operation::Write
+        | Operation::WriteJoint
+        | Operation::Soonest => run(operation, plan, line, 2),
+        _ => run(operation, plan, line, 1),
     }
 }
 

@@ -4,8 +4,11 @@ use lines::letter;
 
 pub enum Operation {
     Judge,
+    JudgeJoint,
     Marks,
+    MarksJoint,
     Write,
+    WriteJoint,
     Margin,
     SheetMargin,
     Harm,
@@ -15,14 +18,36 @@ pub enum Operation {
     Check,
 }
 
+// `judge`, `marks` and `write`, or `judge_joint` and its like.
+fn of_judge(line: &[u8]) -> Operation {
+    if letter(line, 5) == b'_' {
+        return Operation::JudgeJoint;
+    }
+    Operation::Judge
+}
+
+fn of_marks(line: &[u8]) -> Operation {
+    if letter(line, 5) == b'_' {
+        return Operation::MarksJoint;
+    }
+    Operation::Marks
+}
+
+fn of_write(line: &[u8]) -> Operation {
+    if letter(line, 5) == b'_' {
+        return Operation::WriteJoint;
+    }
+    Operation::Write
+}
+
 // By the first letter; `sheet_margin` or `soonest` by the second, `marks` or `margin` by the fourth. A piece of evidence has none.
 pub fn operation_of(line: &[u8]) -> Operation {
     let first = letter(line, 0);
     if first == b'j' {
-        return Operation::Judge;
+        return of_judge(line);
     }
     if first == b'w' {
-        return Operation::Write;
+        return of_write(line);
     }
     if first == b's' {
         return if letter(line, 1) == b'o' {
@@ -44,7 +69,7 @@ pub fn operation_of(line: &[u8]) -> Operation {
         return Operation::Check;
     }
     if letter(line, 3) == b'k' {
-        return Operation::Marks;
+        return of_marks(line);
     }
     Operation::Margin
 }

@@ -8,8 +8,12 @@ use mathlib.Core.List.{List, [], _∷_}
 use lib.ListN.{length, getD, set, drop}
 use lib.Dec.{eqb, ltb}
 use borrow.Author.Tests.{eqb-true, ltb-true, lt-ltb, le-ltb, le-leb, lt-leb}
+use Rattle.limits.specs.Limits.{maxStates}
 use Rattle.graph.proofs.Plan.{size-states}
+use Rattle.theory.specs.System.{System, Laws}
 use Rattle.theory.specs.Marked.{marks, unsafe}
+use Rattle.theory.specs.WithoutTouch.{withTouch, withoutTouch}
+use Rattle.theory.proofs.WithoutTouch.{touch-laws}
 use Rattle.theory.specs.Trail.{trailSteps}
 use Rattle.theory.proofs.Below.{bit-le, count-le, cond-ind}
 use Rattle.plan_reader.specs.Accept.{readModel}
@@ -26,10 +30,9 @@ use Rattle.number.specs.Number.{readNumber}
 use Rattle.number.specs.Shortest.{readSpelled, numberIn}
 use Rattle.number.proofs.Laws.{Sound, sound}
 use Rattle.number.proofs.Shortest.{number-in}
-use Rattle.evidence.specs.Ours.{ourEvidence}
 use Rattle.evidence_writer.specs.declared.Written.{Written}
-use Rattle.evidence_writer.specs.Written.{verdictWith, writtenFor}
-use Rattle.evidence_writer.proofs.Output.{evidence-most}
+use Rattle.evidence_writer.specs.Written.{verdictWith, writtenFor, writtenBy}
+use Rattle.evidence_writer.proofs.Output.{evidence-most, evidence-by-most}
 use Rattle.op_write.specs.Write.{writtenAnswer, writeAnswer}
 use Rattle.robust.specs.Margin.{margin}
 use Rattle.robust_models.proofs.Models.{margin-uniform}
@@ -43,8 +46,12 @@ use Rattle.op_sheet_margin.specs.SheetMargin.{boundValues, sheetMarginAnswer}
 use Rattle.op_harm.specs.Harm.{harmValues, harmAnswer}
 use Rattle.number.specs.Answer.{Answer, answer}
 use Rattle.call.specs.Call.{modelOf, statesOf, refusal}
+use Rattle.call.specs.Joint.{jointRefusal}
 use Rattle.op_judge.specs.Judge.{countOf, verdict, judged}
 use Rattle.op_marks.specs.Marks.{marksRefusal, marked}
+use Rattle.op_judge_joint.specs.JudgeJoint.{jointJudged}
+use Rattle.op_marks_joint.specs.MarksJoint.{jointMarksRefusal, jointMarked}
+use Rattle.op_write_joint.specs.WriteJoint.{jointWriteAnswer}
 use Rattle.least_time.specs.LeastTime.{leastTime}
 use Rattle.op_soonest.specs.Sounding.{soonestRefusal, soonestAnswer}
 use Rattle.op_soonest.proofs.Arrivals.{soonest-taken}
@@ -53,30 +60,50 @@ use Rattle.drift_c.specs.Words.{value, judgeWord, countWord, checkWord, 
 use Rattle.number.specs.declared.Number.the-variants as number
 use Rattle.number.specs.declared.Spelled.the-variants as spelled
 
-module _ (m : Model) (ok : Lawful m) where
-  count-small : countOf (systemOfModel m) ≤ states m
+module _ (Y : System) (L : Laws Y) (few : Y .size ≤ maxStates) where
+  count-small : countOf Y ≤ Y .size
   unfolding countOf
   count-small =
-      let Y = systemOfModel m in
-      let laws = system-laws m ok in
-      rw (← size-states m)
-      (cond-ind (λ (k : ℕ). k ≤ Y .size) (unsafe Y)
-      (λ u. le-of-lt (ltb-true (trailSteps Y) (Y .size) (sym (steps-verdict Y laws) ∙ u)))
-      (λ _. count-le (Y .size) (marks Y)))
+      cond-ind (λ (k : ℕ). k ≤ Y .size) (unsafe Y)
+      (λ u. le-of-lt (ltb-true (trailSteps Y) (Y .size) (sym (steps-verdict Y L) ∙ u)))
+      (λ _. count-le (Y .size) (marks Y))
 
-  verdict-small : (i : ℕ) → getD (verdict (systemOfModel m)) i 0 ≤ maxField
+  verdict-small : (i : ℕ) → getD (verdict Y) i 0 ≤ maxField
   unfolding verdict
-  verdict-small zero = omega (arith, bit-le (unsafe (systemOfModel m)))
-  verdict-small (suc zero) = omega (arith, size-states m, states-limit ok)
-  verdict-small (suc (suc zero)) = omega (arith, count-small, states-limit ok)
+  verdict-small zero = omega (arith, bit-le (unsafe Y))
+  verdict-small (suc zero) = omega (arith, few)
+  verdict-small (suc (suc zero)) = omega (arith, count-small, few)
   verdict-small (suc (suc (suc i))) = zero-le
+
+size-few : (m : Model) → Lawful m → systemOfModel m .size ≤ maxStates
+size-few m ok = omega (arith, size-states m, states-limit ok)
 
 pub judge-fields : (bytes lent : List ℕ) → Fields (judged bytes lent)
 unfolding judged answer
 judge-fields bytes lent =
     record {
       fit = λ i. cond-ind (λ (a : Answer). value a i ≤ maxField) (eqb (refusal bytes lent) 0)
-          (λ t. verdict-small (modelOf bytes) (accepted bytes lent (eqb-true _ _ t)) i)
+          (λ t.
+              let ok = accepted bytes lent (eqb-true _ _ t) in
+              verdict-small (systemOfModel (modelOf bytes)) (system-laws (modelOf bytes) ok) (size-few (modelOf bytes) ok) i)
+          (λ _. zero-le);
+    }
+
+-- ---- the same without touch
+
+past-eight : (bytes lent : List ℕ) → jointRefusal bytes lent ≡ 0 → refusal bytes lent ≡ 0
+unfolding jointRefusal
+past-eight bytes lent = cond-ind (λ (r : ℕ). r ≡ 0 → refusal bytes lent ≡ 0) (eqb (refusal bytes lent) 0) (λ t _. eqb-true _ _ t) (λ _ z. z)
+
+pub judge-joint-fields : (bytes lent : List ℕ) → Fields (jointJudged bytes lent)
+unfolding jointJudged answer withTouch
+judge-joint-fields bytes lent =
+    record {
+      fit = λ i. cond-ind (λ (a : Answer). value a i ≤ maxField) (eqb (jointRefusal bytes lent) 0)
+          (λ t.
+              let ok = accepted bytes lent (past-eight bytes lent (eqb-true _ _ t)) in
+              let Y = systemOfModel (modelOf bytes) in
+              verdict-small (withoutTouch Y) (touch-laws false Y (system-laws (modelOf bytes) ok)) (size-few (modelOf bytes) ok) i)
           (λ _. zero-le);
     }
 
@@ -95,6 +122,18 @@ marks-fields bytes lent room =
   where
     past : marksRefusal bytes lent room ≡ 0 → refusal bytes lent ≡ 0
     past e = cond-ind (λ (r : ℕ). r ≡ 0 → refusal bytes lent ≡ 0) (eqb (refusal bytes lent) 0) (λ t _. eqb-true _ _ t) (λ _ z. z) e
+
+pub marks-joint-fields : (bytes lent : List ℕ) (room : ℕ) → Fields (jointMarked bytes lent room)
+unfolding jointMarked answer jointMarksRefusal
+marks-joint-fields bytes lent room =
+    record {
+      fit = λ i. cond-ind (λ (a : Answer). value a i ≤ maxField) (eqb (jointMarksRefusal bytes lent room) 0)
+          (λ t. states-small (modelOf bytes) (accepted bytes lent (past-eight bytes lent (past (eqb-true (jointMarksRefusal bytes lent room) 0 t)))) i)
+          (λ _. zero-le);
+    }
+  where
+    past : jointMarksRefusal bytes lent room ≡ 0 → jointRefusal bytes lent ≡ 0
+    past e = cond-ind (λ (r : ℕ). r ≡ 0 → jointRefusal bytes lent ≡ 0) (eqb (jointRefusal bytes lent) 0) (λ t _. eqb-true _ _ t) (λ _ z. z) e
 
 -- a time that is told is below the number of states
 pub soonest-fields : (bytes : List ℕ) (l : ℕ) (lent : List ℕ) → Fields (soonestAnswer bytes l lent)
@@ -148,26 +187,44 @@ unfolding writeWord
 write-refused-is r = omega arith
 
 -- the number of bytes fits
+abbrev Few : Answer → Type 0
+Few a = value a 1 ≤ 2 ^ 40
+
+few-none : (r : ℕ) → Few (answer r [])
+unfolding answer
+few-none r = by (eqb r 0)
+  where
+    by : (b : Bool) → Few (cond b (record { number = 0; values = [] }) (record { number = r; values = [] }))
+    by true = zero-le
+    by false = zero-le
+
+few-written : (bad : Bool) (need room : ℕ) → need ≤ 2 ^ 40 → Few (writtenAnswer (verdictWith bad need room))
+unfolding writtenAnswer verdictWith
+few-written bad need room h =
+    cond-ind (λ (w : Written). Few (writtenAnswer w)) (ltb room need) (λ _. zero-le)
+    (λ _. cond-ind (λ (w : Written). Few (writtenAnswer w)) bad (λ _. h) (λ _. h))
+
 pub write-room : (bytes lent : List ℕ) (room : ℕ) → BytesFit (writeAnswer bytes lent room)
-unfolding writeAnswer answer writtenAnswer writtenFor verdictWith
+unfolding writeAnswer writtenFor
 write-room bytes lent room =
+    let m = modelOf bytes in
     record {
       few = cond-ind Few (eqb (refusal bytes lent) 0)
-          (λ t. few (unsafe (systemOfModel (modelOf bytes))) (le-trans (evidence-most (modelOf bytes) (accepted bytes lent (eqb-true _ _ t))) (omega arith)))
-          (λ _. none (refusal bytes lent) (eqb (refusal bytes lent) 0));
+          (λ t. few-written (unsafe (systemOfModel m)) _ room (le-trans (evidence-most m (accepted bytes lent (eqb-true _ _ t))) (omega arith)))
+          (λ _. few-none (refusal bytes lent));
     }
-  where
-    Few : Answer → Type 0
-    Few a = value a 1 ≤ 2 ^ 40
 
-    none : (r : ℕ) (b : Bool) → Few (cond b (record { number = 0; values = [] }) (record { number = r; values = [] }))
-    none r true = zero-le
-    none r false = zero-le
-
-    few : (bad : Bool) → length (ourEvidence (modelOf bytes)) ≤ 2 ^ 40 → Few (writtenAnswer (verdictWith bad (length (ourEvidence (modelOf bytes))) room))
-    few bad h =
-        cond-ind (λ (w : Written). Few (writtenAnswer w)) (ltb room (length (ourEvidence (modelOf bytes)))) (λ _. zero-le)
-        (λ _. cond-ind (λ (w : Written). Few (writtenAnswer w)) bad (λ _. h) (λ _. h))
+pub write-joint-room : (bytes lent : List ℕ) (room : ℕ) → BytesFit (jointWriteAnswer bytes lent room)
+unfolding jointWriteAnswer writtenBy
+write-joint-room bytes lent room =
+    let m = modelOf bytes in
+    record {
+      few = cond-ind Few (eqb (jointRefusal bytes lent) 0)
+          (λ t.
+              let ok = accepted bytes lent (past-eight bytes lent (eqb-true _ _ t)) in
+              few-written (unsafe (withoutTouch (systemOfModel m))) _ room (le-trans (evidence-by-most false m ok) (omega arith)))
+          (λ _. few-none (jointRefusal bytes lent));
+    }
 
 pub plan-room : (bytes : List ℕ) (room : ℕ) → StoredFit (planAnswer bytes room)
 unfolding planAnswer bytesAnswer answer

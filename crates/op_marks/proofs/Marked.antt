@@ -2,6 +2,7 @@
 use Prim.Native.Nat.{ℕ, _+_, _≤_, _<_}
 use native.Mathlib.Omega.{arith}
 use mathlib.Core.Path.{_≡_, refl, sym, ap, _∙_}
+use mathlib.Core.Bool.{Bool}
 use mathlib.Core.List.{List, [], _∷_, _++_}
 use lib.ListN.{length, getD, drop}
 use lib.Dec.{ltb}
@@ -9,16 +10,23 @@ use borrow.Author.Tests.{ne-eqb, lt-ltb, le-ltb}
 use Rattle.theory.specs.Below.{bit}
 use Rattle.theory.specs.System.{System, Laws}
 use Rattle.theory.specs.Marked.{marks}
+use Rattle.theory.specs.WithoutTouch.{withTouch}
 use Rattle.theory.proofs.Below.{is-table}
 use Rattle.theory.proofs.Levels.{mark-marks}
 use Rattle.number.specs.Answer.{answer}
 use Rattle.model.specs.declared.Model.{Model}
 use Rattle.graph.specs.Plan.{systemOfModel}
 use Rattle.graph.specs.States.{states}
+use Rattle.graph.proofs.Plan.{size-states}
 use Rattle.marking.specs.Tables.{Distances}
 use Rattle.call.specs.Call.{modelOf, statesOf, refusal}
 use Rattle.op_marks.specs.declared.Marking.the-variants.{Marked, Refused}
 use Rattle.op_marks.specs.Marks.{short, marksRefusal, marked, marksOf, marksIn, output, markingAnswer}
+
+-- with touch steps or without, a state has the same number
+pub touch-size : (touch : Bool) (m : Model) → withTouch touch (systemOfModel m) .size ≡ states m
+unfolding withTouch
+touch-size touch m = size-states m
 
 -- ---- a byte for each state
 
@@ -44,16 +52,16 @@ module _ (m : Model) (k : ℕ) where
       let c : states m ≤ k = omega arith in
       simp (le-ltb k (states m) c) (ap (λ (n : ℕ). record { number = 0; values = n ∷ [] }) e)
 
-module _ (m : Model) (out : List ℕ) where
-  pub short-alone : length out < states m → out ≡ marksIn m out
+module _ (Y : System) (out : List ℕ) where
+  pub short-alone : length out < Y .size → out ≡ marksIn Y out
   unfolding marksIn
-  short-alone b = simp (lt-ltb (length out) (states m) b) refl
+  short-alone b = simp (lt-ltb (length out) (Y .size) b) refl
 
-  pub marked-in : (s : ℕ) (xs : List ℕ) → s ≡ states m → s ≤ length out → xs ≡ marksOf (systemOfModel m) → xs ++ drop s out ≡ marksIn m out
+  pub marked-in : (s : ℕ) (xs : List ℕ) → s ≡ Y .size → s ≤ length out → xs ≡ marksOf Y → xs ++ drop s out ≡ marksIn Y out
   unfolding marksIn
   marked-in s xs e b f =
-      let c : states m ≤ length out = omega arith in
-      simp (le-ltb (length out) (states m) c) (rw (e, f) refl)
+      let c : Y .size ≤ length out = omega arith in
+      simp (le-ltb (length out) (Y .size) c) (rw (e, f) refl)
 
 -- ---- a call
 
@@ -72,6 +80,6 @@ module _ (bytes lent : List ℕ) where
     unfolding marked marksRefusal
     marks-done k = simp is refl
 
-    pub output-done : (xs : List ℕ) → output bytes lent xs ≡ marksIn (modelOf bytes) xs
+    pub output-done : (xs : List ℕ) → output bytes lent xs ≡ marksIn (systemOfModel (modelOf bytes)) xs
     unfolding output
     output-done xs = simp is refl

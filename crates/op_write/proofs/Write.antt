@@ -1,13 +1,22 @@
 -- What the writer says and leaves: refused, or our evidence.
 use Prim.Native.Nat.{ℕ}
-use mathlib.Core.Path.{_≡_, refl}
+use mathlib.Core.Path.{_≡_, refl, ap}
+use mathlib.Core.Bool.{true}
 use mathlib.Core.List.{List}
 use borrow.Author.Tests.{ne-eqb}
 use Rattle.number.specs.Answer.{answer}
 use Rattle.evidence_writer.specs.declared.Written.the-variants.{Refused}
-use Rattle.evidence_writer.specs.Written.{evidenceIn, writtenFor}
+use Rattle.spelling.specs.Lays.{filled}
+use Rattle.model.specs.declared.Model.{Model}
+use Rattle.evidence_writer.specs.Written.{evidenceBy, evidenceIn, writtenFor}
+use Rattle.evidence_writer.proofs.Output.{evidence-by-touch}
 use Rattle.call.specs.Call.{modelOf, refusal}
 use Rattle.op_write.specs.Write.{writeAnswer, writeOutput, writtenAnswer}
+
+-- with touch steps the evidence is ours
+pub filled-by-touch : (m : Model) (out : List ℕ) → filled (evidenceBy true m) out ≡ evidenceIn m out
+unfolding evidenceIn
+filled-by-touch m out = ap (λ (bs : List ℕ). filled bs out) (evidence-by-touch m)
 
 module _ (bytes lent : List ℕ) where
   module _ (r : ℕ) (is : refusal bytes lent ≡ r) (ne : r ≡ 0 → ⊥) where

@@ -4,6 +4,7 @@
 //! built once beforehand. With a folder as its argument it also draws the times
 //! there: safe.svg and unsafe.svg.
 
+mod joint;
 mod plot;
 
 use second::generate::{generate_sized, Class};
@@ -90,6 +91,18 @@ impl Buffers {
         drift::write_evidence(model, self.scratch.lend(), &mut self.output).expect("it fits")
     }
 
+    fn judge_joint(&mut self, model: &[u8]) -> drift::Judgement {
+        drift::judge_joint(model, self.scratch.lend()).expect("a joint reset")
+    }
+
+    fn marks_joint(&mut self, model: &[u8]) -> usize {
+        drift::marks_joint(model, self.scratch.lend(), &mut self.output).expect("a joint reset")
+    }
+
+    fn evidence_joint(&mut self, model: &[u8]) -> drift::Written {
+        drift::write_joint(model, self.scratch.lend(), &mut self.output).expect("it fits")
+    }
+
     fn check(&mut self, model: &[u8], evidence: &[u8]) -> drift::Kind {
         drift::check_evidence(model, evidence, self.scratch.lend()).expect("passing evidence")
     }
@@ -110,6 +123,7 @@ fn main() {
     print_growth(&means);
     print_plans();
     print_times();
+    joint::print_joint();
     if let Some(folder) = std::env::args().nth(1) {
         draw(Path::new(&folder), &means);
     }

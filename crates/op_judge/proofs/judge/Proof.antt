@@ -3,6 +3,10 @@ use borrow.Author.Needs.{needs}
 use native.Mathlib.Omega.{arith}
 use mathlib.Core.Path.{sym, ap, _∙_}
 use lib.Seq.{length-take-le}
+use mathlib.Core.Bool.{true}
+use Rattle.theory.specs.System.{System}
+use Rattle.theory.specs.WithoutTouch.{withTouch}
+use Rattle.theory.proofs.WithoutTouch.{with-touch}
 use Rattle.number.specs.Answer.{answer}
 use Rattle.model.specs.declared.Model.{Model}
 use Rattle.graph.specs.Plan.{systemOfModel}
@@ -95,7 +99,7 @@ returns-2 c =
     let admit = c .before .before .before .before .before .before .before .before .before .before .before .before .before .before .before .admit in
     let z = c .before .before .before .before .before .before .before .before .before .before .before .before .before .before .if1 .left in
     let done = c .before .before .before .before .before .before .before .before .judge-model .ensures in (
-      done .0 ∙ ap (λ (m : Model). answer 0 (verdict (systemOfModel m))) (model-is (a .bytes .now) (a .s1 .now) (a .s2 .now) (a .s3 .now) (a .s4 .now) (admit .result) (admit .ensures) z) ∙ sym (judge-done _ _ (taken (a .bytes .now) (a .s1 .now) (a .s2 .now) (a .s3 .now) (a .s4 .now) (admit .result) (admit .ensures) z)),
+      done .0 ∙ ap (λ (m : Model). answer 0 (verdict (withTouch true (systemOfModel m)))) (model-is (a .bytes .now) (a .s1 .now) (a .s2 .now) (a .s3 .now) (a .s4 .now) (admit .result) (admit .ensures) z) ∙ ap (λ (Y : System). answer 0 (verdict Y)) (with-touch _) ∙ sym (judge-done _ _ (taken (a .bytes .now) (a .s1 .now) (a .s2 .now) (a .s3 .now) (a .s4 .now) (admit .result) (admit .ensures) z)),
       zero-left (a .bytes .now) (a .s1 .now) (a .s2 .now) (a .s3 .now) (a .s4 .now) (admit .result) (admit .ensures) z _ _ _ _ (done .1),
     )
 

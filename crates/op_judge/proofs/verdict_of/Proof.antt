@@ -3,6 +3,8 @@ use native.Mathlib.Omega.{arith}
 use Prim.Native.Nat.{_-_}
 use lib.ListN.{length}
 use borrow.Author.Needs.{needs}
+use Rattle.theory.specs.WithoutTouch.{withTouch}
+use Rattle.theory.proofs.WithoutTouch.{touch-laws}
 use Rattle.graph.specs.Plan.{systemOfModel}
 use Rattle.graph.proofs.Models.{system-laws}
 use Rattle.survey.proofs.Forbidden.{kinds, forbids-by}
@@ -22,16 +24,17 @@ cast-fewest c = search needs
 fewest-requires : tie.Need-fewest-requires
 fewest-requires c κs =
     let start = c .before .before .before .before in
-    kinds (start .args .m) (start .pre .0) (start .args .distances .now) (c .count .result) (start .pre .1) (c .count .ensures)
+    kinds (start .args .m) (start .pre .0) (start .args .touch) (start .args .distances .now) (c .count .result) (start .pre .1) (c .count .ensures)
 
 returns : tie.Need-returns
 returns c =
     let start = c .before .before .before .before .before .before in
     let m = start .args .m in
-    let laws = system-laws m (start .pre .0) in
-    answer-unsafe (systemOfModel m) laws (length (start .args .distances .now)) (c .before .fewest .result) (start .pre .1 .long)
-    (c .before .fewest .ensures (systemOfModel m) laws (start .pre .1)
-    (forbids-by m (start .pre .0) (c .before .before .count .result) (c .before .before .count .ensures)))
+    let Y = withTouch (start .args .touch) (systemOfModel m) in
+    let laws = touch-laws (start .args .touch) (systemOfModel m) (system-laws m (start .pre .0)) in
+    answer-unsafe Y laws (length (start .args .distances .now)) (c .before .fewest .result) (start .pre .1 .long)
+    (c .before .fewest .ensures Y laws (start .pre .1)
+    (forbids-by m (start .pre .0) (start .args .touch) (c .before .before .count .result) (c .before .before .count .ensures)))
     (omega arith)
 
 count-marked-requires : tie.Need-count-marked-requires
@@ -41,12 +44,13 @@ returns-2 : tie.Need-returns-2
 returns-2 c =
     let start = c .before .before .before .before .before .before .before in
     let m = start .args .m in
-    let laws = system-laws m (start .pre .0) in
-    answer-safe (systemOfModel m) laws (length (start .args .distances .now)) (c .count-marked .result) (c .before .before .fewest .result) (start .pre .1 .long)
-    (c .before .before .fewest .ensures (systemOfModel m) laws (start .pre .1)
-    (forbids-by m (start .pre .0) (c .before .before .before .count .result) (c .before .before .before .count .ensures)))
+    let Y = withTouch (start .args .touch) (systemOfModel m) in
+    let laws = touch-laws (start .args .touch) (systemOfModel m) (system-laws m (start .pre .0)) in
+    answer-safe Y laws (length (start .args .distances .now)) (c .count-marked .result) (c .before .before .fewest .result) (start .pre .1 .long)
+    (c .before .before .fewest .ensures Y laws (start .pre .1)
+    (forbids-by m (start .pre .0) (start .args .touch) (c .before .before .before .count .result) (c .before .before .before .count .ensures)))
     (omega arith)
-    (c .count-marked .ensures (systemOfModel m) laws (start .pre .1))
+    (c .count-marked .ensures Y laws (start .pre .1))
 
 pub verdict-of-spec : {M : Type 1} → statement M
 verdict-of-spec =

@@ -5,7 +5,9 @@ use mathlib.Core.Path.{sym, _∙_}
 use lib.ListN.{length}
 use lib.Seq.{length-take-le}
 use Rattle.call.proofs.Frames.{zeroed}
-use Rattle.op_marks.proofs.Marked.{answer-short, short-alone, answer-marked, marked-in}
+use Rattle.theory.specs.WithoutTouch.{withTouch}
+use Rattle.graph.specs.Plan.{systemOfModel}
+use Rattle.op_marks.proofs.Marked.{touch-size, answer-short, short-alone, answer-marked, marked-in}
 use Rattle.op_marks.proofs.mark_into.Statement.{statement}
 use Rattle.op_marks.proofs.mark_into.Tie as tie
 
@@ -30,7 +32,7 @@ returns c =
     let lent = start .pre .1 in (
       answer-short (start .args .m) (length (start .args .out .now)) (omega (arith, lent .first)),
       (
-        short-alone (start .args .m) (start .args .out .now) (omega (arith, lent .first)),
+        short-alone (withTouch (start .args .touch) (systemOfModel (start .args .m))) (start .args .out .now) (omega (arith, lent .first, touch-size (start .args .touch) (start .args .m))),
         zeroed (c .before .before .before .before .before .before .before .before .clear-all .ensures) (lent .first) (lent .second) (lent .third) (lent .fourth),
       ),
     )
@@ -66,7 +68,7 @@ returns-2 c =
     let start = c .before .before .before .before .before .before .before .before .before .before .before .before .before .before .before .before .before .before .before .before .before .before in
     let done = c .before .before .before .before .before .before .before .before .before .before .mark-model .ensures in (
       answer-marked (start .args .m) (length (start .args .out .now)) _ (start .pre .1 .first) (omega (arith, c .before .before .before .before .before .before .before .before .before .before .before .before .before .before .before .before .if1 .left)),
-      (marked-in (start .args .m) (start .args .out .now) _ _ (start .pre .1 .first) (omega (arith, c .before .before .before .before .before .before .before .before .before .before .before .before .before .before .before .before .if1 .left)) (done .0), done .1),
+      (marked-in (withTouch (start .args .touch) (systemOfModel (start .args .m))) (start .args .out .now) _ _ (start .pre .1 .first ∙ sym (touch-size (start .args .touch) (start .args .m))) (omega (arith, c .before .before .before .before .before .before .before .before .before .before .before .before .before .before .before .before .if1 .left)) (done .0), done .1),
     )
 
 pub mark-into-spec : {M : Type 1} → statement M

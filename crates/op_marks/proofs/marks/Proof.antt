@@ -5,8 +5,11 @@ use mathlib.Core.Path.{sym, ap, _∙_}
 use lib.Seq.{length-take-le}
 use mathlib.Core.List.{[], _∷_}
 use lib.ListN.{length}
+use Rattle.theory.specs.System.{System}
+use Rattle.theory.proofs.WithoutTouch.{with-touch}
 use Rattle.number.specs.Answer.{answer}
 use Rattle.model.specs.declared.Model.{Model}
+use Rattle.graph.specs.Plan.{systemOfModel}
 use Rattle.graph.specs.States.{states}
 use Rattle.op_marks.specs.Marks.{short, marksIn}
 use Rattle.call.proofs.Calls.{refused-by, untouched, taken, model-is, lawful, room, parts, zero-left}
@@ -105,7 +108,7 @@ returns-2 c =
     let is = taken (a .bytes .now) (a .s1 .now) (a .s2 .now) (a .s3 .now) (a .s4 .now) (admit .result) (admit .ensures) z in (
       done .0 ∙ ap (λ (m : Model). answer (short (length (a .out .now)) m) (states m ∷ [])) (model-is (a .bytes .now) (a .s1 .now) (a .s2 .now) (a .s3 .now) (a .s4 .now) (admit .result) (admit .ensures) z) ∙ sym (marks-done _ _ is _),
       (
-        done .1 .0 ∙ ap (λ (m : Model). marksIn m (a .out .now)) (model-is (a .bytes .now) (a .s1 .now) (a .s2 .now) (a .s3 .now) (a .s4 .now) (admit .result) (admit .ensures) z) ∙ sym (output-done _ _ is _),
+        done .1 .0 ∙ ap (λ (Y : System). marksIn Y (a .out .now)) (with-touch _) ∙ ap (λ (m : Model). marksIn (systemOfModel m) (a .out .now)) (model-is (a .bytes .now) (a .s1 .now) (a .s2 .now) (a .s3 .now) (a .s4 .now) (admit .result) (admit .ensures) z) ∙ sym (output-done _ _ is _),
         zero-left (a .bytes .now) (a .s1 .now) (a .s2 .now) (a .s3 .now) (a .s4 .now) (admit .result) (admit .ensures) z _ _ _ _ (done .1 .1),
       ),
     )

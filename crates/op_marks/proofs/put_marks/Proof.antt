@@ -5,12 +5,13 @@ use native.Mathlib.Omega.{arith}
 use Prim.Native.Nat.{ℕ, _-_, _≤_, _<_}
 use mathlib.Core.Path.{_≡_, refl, sym, _∙_}
 use lib.ListN.{length, getD, length-set}
-use Rattle.graph.proofs.Plan.{size-states}
 use Rattle.theory.specs.Below.{bit}
 use Rattle.theory.proofs.Below.{stored-next}
+use Rattle.theory.specs.WithoutTouch.{withTouch}
+use Rattle.theory.proofs.WithoutTouch.{touch-laws}
 use Rattle.graph.specs.Plan.{systemOfModel}
 use Rattle.graph.proofs.Models.{system-laws}
-use Rattle.op_marks.proofs.Marked.{marks-written}
+use Rattle.op_marks.proofs.Marked.{touch-size, marks-written}
 use Rattle.op_marks.proofs.put_marks.Statement.{statement}
 use Rattle.op_marks.proofs.put_marks.Tie as tie
 
@@ -36,7 +37,7 @@ flag-requires c κs = search needs
 slice-write-out : tie.Need-slice-write-out Inv-loop μ-loop
 slice-write-out c =
     let start = c .before .before .before .before .before .before in
-    omega (arith, c .before .before .before .loop .inv .1, start .pre .2, start .pre .1 .long, size-states (start .args .m))
+    omega (arith, c .before .before .before .loop .inv .1, start .pre .2, start .pre .1 .long, touch-size (start .args .touch) (start .args .m))
 
 add-p : tie.Need-add-p Inv-loop μ-loop
 add-p c = search needs
@@ -59,8 +60,10 @@ returns : tie.Need-returns Inv-loop μ-loop
 returns c =
     let start = c .before .before .before .before in
     let l = c .before .loop in
-    marks-written (systemOfModel (start .args .m)) (system-laws (start .args .m) (start .pre .0)) (l .out) (start .args .distances .now) (start .pre .1)
-    (l .inv .1 ∙ start .pre .2 ∙ sym (size-states (start .args .m))) (λ p b. l .inv .2 p (omega (arith, start .pre .1 .long)))
+    let touch = start .args .touch in
+    let m = start .args .m in
+    marks-written (withTouch touch (systemOfModel m)) (touch-laws touch (systemOfModel m) (system-laws m (start .pre .0))) (l .out) (start .args .distances .now) (start .pre .1)
+    (l .inv .1 ∙ start .pre .2 ∙ sym (touch-size touch m)) (λ p b. l .inv .2 p (omega (arith, start .pre .1 .long)))
 
 pub put-marks-spec : {M : Type 1} → statement M
 put-marks-spec =

@@ -8,7 +8,8 @@ use Rattle.model.specs.declared.Model.{Model}
 use Rattle.evidence_writer.specs.Written.{evidenceIn, writtenFor}
 use Rattle.op_write.specs.Write.{writtenAnswer}
 use Rattle.call.proofs.Calls.{refused-by, untouched, taken, model-is, lawful, room, parts, zero-left}
-use Rattle.op_write.proofs.Write.{write-refused, write-alone, write-done, write-output}
+use Rattle.evidence_writer.proofs.Output.{written-by-touch}
+use Rattle.op_write.proofs.Write.{filled-by-touch, write-refused, write-alone, write-done, write-output}
 use Rattle.op_write.proofs.write_evidence.Statement.{statement}
 use Rattle.op_write.proofs.write_evidence.Tie as tie
 
@@ -100,8 +101,8 @@ returns-2 c =
     let done = c .before .before .before .before .before .before .before .before .before .before .write-model .ensures in
     let is = taken (a .bytes .now) (a .s1 .now) (a .s2 .now) (a .s3 .now) (a .s4 .now) (admit .result) (admit .ensures) z in
     let m = model-is (a .bytes .now) (a .s1 .now) (a .s2 .now) (a .s3 .now) (a .s4 .now) (admit .result) (admit .ensures) z in (
-      ap writtenAnswer (done .0 .0 ∙ ap (λ (m : Model). writtenFor m (length (a .out .now))) m) ∙ sym (write-done _ _ is _),
-      (done .0 .1 ∙ ap (λ (m : Model). evidenceIn m (a .out .now)) m ∙ sym (write-output _ _ is _), zero-left (a .bytes .now) (a .s1 .now) (a .s2 .now) (a .s3 .now) (a .s4 .now) (admit .result) (admit .ensures) z _ _ _ _ (done .1)),
+      ap writtenAnswer (done .0 .0 ∙ written-by-touch _ _ ∙ ap (λ (m : Model). writtenFor m (length (a .out .now))) m) ∙ sym (write-done _ _ is _),
+      (done .0 .1 ∙ filled-by-touch _ _ ∙ ap (λ (m : Model). evidenceIn m (a .out .now)) m ∙ sym (write-output _ _ is _), zero-left (a .bytes .now) (a .s1 .now) (a .s2 .now) (a .s3 .now) (a .s4 .now) (admit .result) (admit .ensures) z _ _ _ _ (done .1)),
     )
 
 pub write-evidence-spec : {M : Type 1} → statement M

@@ -1,0 +1,2 @@
+-- The quicker judge's ways.
+pub mod JudgedJoint

@@ -1,0 +1,2 @@
+-- The evidence of the quicker judge: the ways of a call.
+pub mod WrittenJoint
