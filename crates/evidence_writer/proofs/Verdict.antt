@@ -1,63 +1,77 @@
--- The verdict from the distances, and what the search for the trail is to be given.
+-- The verdict from the distances, and what the search for the trail is to be given, with touch steps or without.
 use Prim.Native.Nat.{ℕ, _*_, _≤_, _<_}
 use native.Mathlib.Omega.{arith}
 use mathlib.Core.Path.{_≡_, refl, sym, _∙_}
-use mathlib.Core.Bool.{true, false}
+use mathlib.Core.Bool.{Bool, true, false}
 use mathlib.Core.List.{List}
 use lib.ListN.{length}
 use borrow.Author.Tests.{lt-ltb, le-ltb}
 use Rattle.graph.proofs.Plan.{size-states}
 use Rattle.limits.specs.Limits.{pointCount}
+use Rattle.theory.specs.System.{System, Laws}
 use Rattle.theory.specs.Marked.{unsafe}
 use Rattle.theory.specs.Trail.{trailSteps}
 use Rattle.theory.specs.Region.{regions}
+use Rattle.theory.specs.WithoutTouch.{withTouch}
 use Rattle.theory.proofs.Trail.{steps-verdict}
+use Rattle.theory.proofs.WithoutTouch.{touch-laws}
 use Rattle.model.specs.declared.Model.{Model}
-use Rattle.model.specs.Model.{Lawful}
 use Rattle.graph.specs.Plan.{systemOfModel}
 use Rattle.graph.specs.States.{states}
 use Rattle.graph.proofs.Models.{system-laws}
 use Rattle.search.specs.Queue.{reachedCount, ByLevel}
-use Rattle.marking.specs.Tables.{SearchTables}
-use Rattle.successors.specs.Flow.{FlowLists}
-use Rattle.region_corners.specs.Shapes.{Linked}
-use Rattle.survey.specs.Surveyed.{Levelled}
-use Rattle.survey.proofs.Tables.{asked, tables-by}
+use Rattle.marking.specs.Tables.{SearchTables, Distances, Forbids}
+use Rattle.call.specs.Scratch.{Scratch}
+use Rattle.survey.proofs.Tables.{asked, tables-for}
 use Rattle.survey.proofs.Forbidden.{kinds, forbids-by}
 use Rattle.trail_states.specs.Told.{Told}
+use Rattle.evidence_writer.specs.Searched.{Searched}
 
-module _ (m : Model) (ok : Lawful m) {first targets shapes heights distance queue : List ℕ} (F : FlowLists m first targets)
-    (C : Linked (m .clocks) (m .ceiling) shapes) (K : Levelled m heights distance queue) (r : ℕ)
-    (e : r ≡ length (regions (m .clocks) (m .ceiling))) (steps : ℕ) (s : steps ≡ trailSteps (systemOfModel m)) where
-  distance-long : length distance ≡ states m
-  distance-long = K .surveyed .distances .long ∙ size-states m
+module _ {touch : Bool} {m : Model} {table first targets shapes heights distance queue path : List ℕ}
+    (K : Searched touch m table first targets shapes heights distance queue path) where
+  abbrev Y : System
+  Y = withTouch touch (systemOfModel m)
 
-  pub unsafe-by : steps < length distance → unsafe (systemOfModel m) ≡ true
-  unsafe-by b =
-      steps-verdict (systemOfModel m) (system-laws m ok)
-      ∙ lt-ltb (trailSteps (systemOfModel m)) (systemOfModel m .size) (omega (arith, K .surveyed .distances .long))
+  pub its-laws : Laws Y
+  its-laws = touch-laws touch (systemOfModel m) (system-laws m (K .lawful))
 
-  pub safe-by : length distance ≤ steps → unsafe (systemOfModel m) ≡ false
-  safe-by b =
-      steps-verdict (systemOfModel m) (system-laws m ok)
-      ∙ le-ltb (trailSteps (systemOfModel m)) (systemOfModel m .size) (omega (arith, K .surveyed .distances .long))
+  pub distance-long : length distance ≡ states m
+  unfolding withTouch
+  distance-long = K .levelled .surveyed .distances .long ∙ size-states m
 
-  -- what the search for the trail's states asks
-  pub trail-asked : (path : ℕ) → path ≡ states m → length queue ≡ states m → steps < length distance
-      → (steps < length distance) × (m .start * r < length distance) × (steps ≤ path) × (length distance ≤ length (m .kind) * r)
-      × ByLevel distance queue (reachedCount distance) × SearchTables (length distance) r first targets shapes heights
-  trail-asked path c g h =
-      let long = distance-long in
-      let Q = asked m ok first targets F shapes heights C r e distance queue (m .locations * pointCount) long g (K .surveyed .heights .long) refl in
-      (h, Q .0, omega arith, kinds m ok distance r (K .surveyed .distances) e .1, K .order, Q .2)
+  pub scratch-of : Scratch (states m) heights distance queue path
+  scratch-of =
+      record { first = K .levelled .surveyed .heights .long; second = distance-long; third = K .queue-long; fourth = K .path-long }
 
-  -- and what it is told
-  pub trail-told : Told (systemOfModel m) steps (m .start * r) r first targets shapes heights (m .kind) distance
-  trail-told = record {
-    laws = system-laws m ok;
-    size = sym (K .surveyed .distances .long);
-    tables = tables-by m ok first targets F shapes heights C r e (K .surveyed .heights);
-    distances = K .surveyed .distances;
-    forbids = forbids-by m ok r e;
-    fewest = s;
-  }
+  module _ (r : ℕ) (e : r ≡ length (regions (m .clocks) (m .ceiling))) (steps : ℕ) where
+    -- the fewest steps into a forbidden location
+    pub steps-by : ((Z : System) → Laws Z → Distances Z distance → Forbids Z r (m .kind) → steps ≡ trailSteps Z) → steps ≡ trailSteps Y
+    steps-by f = f Y its-laws (K .levelled .surveyed .distances) (forbids-by m (K .lawful) touch r e)
+
+  module _ (r : ℕ) (e : r ≡ length (regions (m .clocks) (m .ceiling))) (steps : ℕ) (s : steps ≡ trailSteps Y) where
+    pub unsafe-by : steps < length distance → unsafe Y ≡ true
+    unsafe-by b = steps-verdict Y its-laws ∙ lt-ltb (trailSteps Y) (Y .size) (omega (arith, K .levelled .surveyed .distances .long))
+
+    pub safe-by : length distance ≤ steps → unsafe Y ≡ false
+    safe-by b = steps-verdict Y its-laws ∙ le-ltb (trailSteps Y) (Y .size) (omega (arith, K .levelled .surveyed .distances .long))
+
+    -- what the search for the trail's states asks
+    pub trail-asked : steps < length distance
+        → (steps < length distance) × (m .start * r < length distance) × (steps ≤ length path) × (length distance ≤ length (m .kind) * r)
+        × ByLevel distance queue (reachedCount distance) × SearchTables touch (length distance) r first targets shapes heights
+    trail-asked h =
+        let Q = asked m (K .lawful) first targets (K .flow) shapes heights (K .by-region) (K .levelled .surveyed .heights) r e
+        distance queue (m .locations * pointCount) distance-long (K .queue-long) refl in
+        let k = kinds m (K .lawful) touch distance r (K .levelled .surveyed .distances) e in
+        (h, Q .0, omega (arith, K .path-long, distance-long), k .1, K .levelled .order, Q .2)
+
+    -- and what it is told
+    pub trail-told : Told Y steps (m .start * r) r first targets shapes heights (m .kind) distance
+    trail-told = record {
+      laws = its-laws;
+      size = sym (K .levelled .surveyed .distances .long);
+      tables = tables-for m (K .lawful) first targets (K .flow) shapes heights (K .by-region) (K .levelled .surveyed .heights) r e;
+      distances = K .levelled .surveyed .distances;
+      forbids = forbids-by m (K .lawful) touch r e;
+      fewest = s;
+    }

@@ -1,2 +1,6 @@
--- What the writer answers and leaves.
+-- The writer of evidence.
+
+-- What the search has left for it.
+pub mod Searched
+-- What it answers and leaves.
 pub mod Written

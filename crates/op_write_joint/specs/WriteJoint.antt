@@ -1,5 +1,5 @@
 -- 02 (g), the evidence: "Marks, verdict and sheet are the full judge's; a trail here has no touch and is the fewest-step one without it".
-use mathlib.Core.Bool.{cond}
+use mathlib.Core.Bool.{false, cond}
 use mathlib.Core.List.{List, []}
 use Prim.Native.Nat.{ℕ}
 use lib.Dec.{eqb}

@@ -2,16 +2,14 @@
 use Prim.Native.Nat.{ℕ, _≤_}
 use native.Mathlib.Omega.{arith}
 use mathlib.Core.Path.{_≡_, sym, ap₂, _∙_}
-use mathlib.Core.Bool.{Bool, true, false, true≢false}
+use mathlib.Core.Bool.{Bool, false, true≢false}
 use mathlib.Core.List.{List}
 use lib.ListN.{length, take}
 use Rattle.theory.specs.Region.{regions}
-use Rattle.theory.specs.Adjacency.{Holds}
-use Rattle.shapes.specs.Layout.{facesAt, cornersAt, linksAt, shapesEnd, part, rowsIn, facesIn, cornersIn}
+use Rattle.shapes.specs.Layout.{facesAt, cornersAt, linksAt, part, rowsIn, facesIn, cornersIn}
 use Rattle.shapes.proofs.Parts.{alike-front, alike-before, put, put-long, put-before, put-part, corners-long}
 use Rattle.region.specs.Limits.{Clocks, Ceiling}
 use Rattle.region_corners.specs.Corners.{CornerSlots}
-use Rattle.region_corners.specs.Faces.{faceOf}
 use Rattle.region_corners.specs.Shapes.{FaceShapes, Shapes, Linked, SearchShapes, Slotted, Chained}
 use Rattle.region_table.proofs.Counts.{regions-few}
 

@@ -1,17 +1,17 @@
 -- The numbers of our sheet as they are found and laid.
 use mathlib.Core.Path.{_≡_, refl, sym, ap, _∙_}
+use mathlib.Core.Bool.{Bool}
 use mathlib.Core.List.{List, [], _∷_, _++_, append-nil}
 use Prim.Native.Nat.{ℕ, zero, suc, _+_, _*_, _/_, _≤_, _<_}
 use native.Mathlib.Omega.{arith}
 use lib.ListN.{length, getD}
 use lib.Dec.{ltb}
 use Rattle.theory.specs.Below.{bit, tab}
-use Rattle.theory.specs.System.{onClosedWalk}
-use Rattle.theory.specs.Height.{height}
+use Rattle.theory.specs.System.{System}
 use Rattle.theory.specs.Sheet.{number, ourSheet}
-use Rattle.theory.specs.StateGraph.{systemOf}
-use Rattle.theory.proofs.Below.{bit-le, tab-length, is-table, tab-same}
-use Rattle.theory.proofs.Levels.{mark-marks}
+use Rattle.theory.specs.WithoutTouch.{withTouch}
+use Rattle.theory.proofs.Below.{tab-length, is-table, tab-same}
+use Rattle.theory.proofs.WithoutTouch.{touch-laws}
 use Rattle.theory.proofs.Height.{height-below}
 use Rattle.limits.specs.Limits.{maxStates}
 use Rattle.number.specs.Number.{spell, spellAll}
@@ -19,16 +19,16 @@ use Rattle.number.proofs.Spelling.{spell-append, spell-few, spell-all-few}
 use Rattle.model.specs.declared.Model.{Model}
 use Rattle.model.specs.Model.{Lawful}
 use Rattle.graph.specs.Plan.{systemOfModel}
-use Rattle.graph.specs.States.{states}
+use Rattle.graph.proofs.Plan.{size-states}
 use Rattle.graph.proofs.Models.{system-laws}
 use Rattle.successors.proofs.Room.{states-limit}
-use Rattle.survey.specs.Surveyed.{Surveyed}
 use Rattle.spelling.specs.Lays.{Lays, maxBytes}
 use Rattle.spelling.proofs.Lays.{lays-then, lays-as}
+use Rattle.sheet_writer.specs.Data.{SheetData}
 
 -- a state's number, by what is known of it
 abbrev pub found : List ℕ → List ℕ → ℕ → ℕ
-found heights distances p = getD heights p 0 / 2 * 2 + bit (ltb 0 (getD distances p 0))
+found heights marks p = getD heights p 0 / 2 * 2 + bit (ltb 0 (getD marks p 0))
 
 -- ---- a list of numbers, one more at its end
 
@@ -68,54 +68,47 @@ room-next {p = p} f v a b h =
 
 -- ---- a state's number
 
-half-twice : (x h b : ℕ) → x ≡ 2 * h + b → b ≤ 1 → x / 2 * 2 ≡ 2 * h
-half-twice x h b e l = omega arith
+module _ {m : Model} (touch : Bool) {heights marks : List ℕ} (ok : Lawful m) (known : SheetData (withTouch touch (systemOfModel m)) heights marks) where
+  abbrev Y : System
+  Y = withTouch touch (systemOfModel m)
 
-module _ {m : Model} {heights distances : List ℕ} (ok : Lawful m) (known : Surveyed m heights distances) where
-  pub same-long : length distances ≡ length heights
-  unfolding systemOf
-  same-long = known .distances .long ∙ sym (known .heights .long)
+  pub same-long : length marks ≡ length heights
+  same-long = known .marks-long ∙ sym (known .heights-long)
+
+  size-few : Y .size ≤ maxStates
+  unfolding withTouch
+  size-few = omega (arith, size-states m, states-limit ok)
 
   pub few-states : length heights ≤ maxStates
-  few-states = omega (arith, known .heights .long, states-limit ok)
+  few-states = omega (arith, known .heights-long, size-few)
 
   -- a height is below the number of states
   pub height-fits : (p : ℕ) → p < length heights → getD heights p 0 < 2 * maxStates
-  unfolding systemOf
   height-fits p b =
-      let l = known .heights .long in
-      let c : p < states m = omega arith in
-      omega (
-        arith,
-        known .heights .are p c,
-        bit-le (onClosedWalk (systemOfModel m) p),
-        height-below (systemOfModel m) (system-laws m ok) p c,
-        states-limit ok,
-      )
+      let c : p < Y .size = omega (arith, known .heights-long) in
+      omega (arith, known .heights p c, height-below Y (touch-laws touch (systemOfModel m) (system-laws m ok)) p c, size-few)
 
-  found-number : (p : ℕ) → p < states m → found heights distances p ≡ number (systemOfModel m) p
-  unfolding number systemOf
-  found-number p b =
-      let h = half-twice (getD heights p 0) (height (systemOfModel m) p) _ (known .heights .are p b) (bit-le (onClosedWalk (systemOfModel m) p)) in
-      rw (h, known .distances .is p b, mark-marks (systemOfModel m) (system-laws m ok) p) refl
+  found-number : (p : ℕ) → p < Y .size → found heights marks p ≡ number Y p
+  unfolding number
+  found-number p b = rw (known .heights p b, known .marked p b) (omega arith)
 
-  found-sheet : (p : ℕ) → p ≡ length heights → tab p (found heights distances) ≡ ourSheet (systemOfModel m)
-  unfolding ourSheet systemOf
+  found-sheet : (p : ℕ) → p ≡ length heights → tab p (found heights marks) ≡ ourSheet Y
+  unfolding ourSheet
   found-sheet p e =
-      ap (λ (n : ℕ). tab n (found heights distances)) (e ∙ known .heights .long)
-      ∙ tab-same (states m) (found heights distances) (number (systemOfModel m)) found-number
+      ap (λ (n : ℕ). tab n (found heights marks)) (e ∙ known .heights-long)
+      ∙ tab-same (Y .size) (found heights marks) (number Y) found-number
 
   -- all states, in a slice
   pub all-stored : (sheet : List ℕ) (p : ℕ) → length sheet ≡ length heights → length heights ≤ p
-      → ((k : ℕ) → k < p → getD sheet k 0 ≡ found heights distances k) → sheet ≡ ourSheet (systemOfModel m)
+      → ((k : ℕ) → k < p → getD sheet k 0 ≡ found heights marks k) → sheet ≡ ourSheet Y
   all-stored sheet p e l h =
-      is-table sheet (length heights) (found heights distances) e (λ k b. h k (omega arith)) ∙ found-sheet (length heights) refl
+      is-table sheet (length heights) (found heights marks) e (λ k b. h k (omega arith)) ∙ found-sheet (length heights) refl
 
   -- and spelled
-  pub all-laid : {o o₁ o₂ : List ℕ} {at r p : ℕ} → Lays o o₁ 0 at (spell 1) → Lays o₁ o₂ at r (spellAll (tab p (found heights distances))) → p ≡ length heights
-      → Lays o o₂ 0 r (spellAll (1 ∷ ourSheet (systemOfModel m)))
+  pub all-laid : {o o₁ o₂ : List ℕ} {at r p : ℕ} → Lays o o₁ 0 at (spell 1) → Lays o₁ o₂ at r (spellAll (tab p (found heights marks))) → p ≡ length heights
+      → Lays o o₂ 0 r (spellAll (1 ∷ ourSheet Y))
   all-laid {p = p} a b e =
       lays-as (lays-then a b)
-      (ap (λ (l : List ℕ). l ++ spellAll (tab p (found heights distances))) (sym (spell-one 1))
-      ∙ sym (spell-append (1 ∷ []) (tab p (found heights distances)))
+      (ap (λ (l : List ℕ). l ++ spellAll (tab p (found heights marks))) (sym (spell-one 1))
+      ∙ sym (spell-append (1 ∷ []) (tab p (found heights marks)))
       ∙ ap (λ (l : List ℕ). spellAll (1 ∷ l)) (found-sheet p e))

@@ -1,4 +1,5 @@
-// The tables of a model: by region its faces and corners, by state which are allowed and where time and jumps lead. They are filled here, and nowhere else.
+// The tables of a model: by region its faces and corners, by state which are allowed and where time and jumps lead. They are filled here, and nowhere
+// else.
 
 ghost use mathlib.Core.Path.{_≡_};
 ghost use lib.ListN.{length};

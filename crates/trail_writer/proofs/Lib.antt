@@ -1,2 +1,2 @@
--- The moves of our trail, spelled part by part.
+-- The moves of a trail, spelled part by part.
 pub mod Moves

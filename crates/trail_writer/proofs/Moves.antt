@@ -1,4 +1,4 @@
--- The moves of our trail, spelled part by part.
+-- The moves of a trail, spelled part by part.
 use mathlib.Core.Path.{_≡_, refl, sym, ap, subst, _∙_}
 use mathlib.Core.Bool.{Bool, true, false}
 use mathlib.Core.List.{List, [], _∷_, _++_, append-assoc, append-nil}
@@ -16,12 +16,13 @@ use Rattle.theory.specs.Walk.{Walk, stop, move, Inside, exact, dist⁺}
 use Rattle.theory.specs.Region.{Clock, wholes, face, regions}
 use Rattle.theory.specs.Enumeration.{ranks, key}
 use Rattle.theory.specs.StateGraph.{regionCount, regionOf, beside, systemOf, labelledOf}
-use Rattle.theory.specs.System.{System, OnClosedWalkIn, onClosedWalk}
+use Rattle.theory.specs.System.{System, Laws, OnClosedWalkIn, onClosedWalk}
 use Rattle.theory.specs.Marked.{step, unsafe}
 use Rattle.theory.specs.Trail.{Trail, trailStates}
 use Rattle.theory.specs.ClosedWalk.{closedWalk, closedWalkSteps}
 use Rattle.theory.specs.Labels.{LabelledSystem, leads, leastLabel, labelsAlong, closedWalkLabels}
 use Rattle.theory.specs.Replay.{Move, flow-by, face-to, touch-to, ourMove, movesAlong, ourMoves}
+use Rattle.theory.specs.WithoutTouch.{withTouch, labelledWithTouch}
 use Rattle.theory.proofs.Below.{cond-ind, least-le, and-right, false-unless-true}
 use Rattle.theory.proofs.Enumeration.{lawful-length, region-at}
 use Rattle.theory.proofs.Marked.{step-inside, unsafe-is}
@@ -29,6 +30,7 @@ use Rattle.theory.proofs.System.{flow-inside, closed-walk-is}
 use Rattle.theory.proofs.StateGraph.{count-positive}
 use Rattle.theory.proofs.ClosedWalk.{closed-walk-below, closed-walk-walk, closed-walk-length}
 use Rattle.theory.proofs.Trail.{unsafe-trail, trail-passes, trail-length, trail-steps-below}
+use Rattle.theory.proofs.WithoutTouch.{touch-laws, touch-walk, touch-moves}
 use Rattle.theory.proofs.Labels.{flow-label, closed-labels-length}
 use Rattle.number.specs.Number.{spell, spellAll}
 use Rattle.number.proofs.Spelling.{spell-append, spell-all-few}
@@ -41,10 +43,10 @@ use Rattle.successors.proofs.Room.{states-limit}
 use Rattle.spelling.specs.Lays.{Lays, maxMoveNumbers, maxBytes}
 use Rattle.spelling.proofs.Lays.{lays-none, lays-then, lays-as}
 use Rattle.replay.specs.Spelling.{labelNumbers, walkNumbers, moveNumbers, movesNumbers, trailNumbers}
-use Rattle.evidence.specs.Ours.{ourTrailNumbers}
 use Rattle.closed_walk.specs.Closes.{Closes}
 use Rattle.closed_walk.proofs.Closing.{closed-walk-steps, closed-walk-nodes}
 use Rattle.trail_writer.specs.Lent.{WalkRoom, LeadsThrough}
+use Rattle.trail_writer.specs.Path.{pathNumbers}
 
 -- ---- room for a part of what there is room for
 
@@ -258,27 +260,9 @@ module _ (m : Model) (ok : Lawful m) where
   along-length [] p = refl
   along-length (q ∷ l) p = ap suc (along-length l q)
 
-  pub trail-bytes : spellAll (ourTrailNumbers m) ≡ spell 2 ++ (spell (length (trailStates Y)) ++ bytesFrom (Y .start) (trailStates Y))
-  unfolding ourTrailNumbers trailNumbers ourMoves labelledOf spellAll
-  trail-bytes =
-      ap (λ (k : ℕ). spell 2 ++ (spell k ++ bytesFrom (Y .start) (trailStates Y))) (along-length (trailStates Y) (Y .start))
-
-  module _ (u : unsafe Y ≡ true) where
-    some-trail : (l : List ℕ) × Trail Y l
-    some-trail = unsafe-trail Y (system-laws m ok) (unsafe-is Y (system-laws m ok) u)
-
-    pub trail-few : length (trailStates Y) < states m
-    trail-few =
-        omega (arith, trail-length Y (system-laws m ok), trail-steps-below Y (system-laws m ok) (some-trail .0) (some-trail .1), size-states m)
-
-    pub trail-leads : LeadsThrough m (Y .start) (trailStates Y)
-    trail-leads =
-        let t = trail-passes Y (system-laws m ok) (some-trail .0) (some-trail .1) in
-        record {
-          below = omega (arith, system-laws m ok .allowed-below (Y .start) (system-laws m ok .start-allowed), size-states m);
-          end = t .0;
-          walk = t .1;
-        }
+  pub trail-bytes : (path : List ℕ) → spellAll (pathNumbers m path) ≡ spell 2 ++ (spell (length path) ++ bytesFrom (Y .start) path)
+  unfolding pathNumbers trailNumbers spellAll
+  trail-bytes path = ap (λ (k : ℕ). spell 2 ++ (spell k ++ bytesFrom (Y .start) path)) (along-length path (Y .start))
 
   -- ---- it is far from as long as an offset can be
 
@@ -324,30 +308,26 @@ module _ (m : Model) (ok : Lawful m) where
             size-few,
           )
 
-  numbers-are : length (ourTrailNumbers m) ≡ 2 + length (movesNumbers (automatonOf m) (movesAlong P (Y .start) (trailStates Y)))
-  unfolding ourTrailNumbers trailNumbers ourMoves labelledOf
-  numbers-are = omega arith
-
   moves-few : (l : List ℕ) (p : ℕ) → length (movesNumbers (automatonOf m) (movesAlong P p l)) ≤ maxMoveNumbers * length l
   unfolding movesAlong movesNumbers
   moves-few [] p = omega arith
   moves-few (q ∷ l) p =
       omega (arith, length-append (moveNumbers (automatonOf m) (ourMove P p q)) (movesNumbers (automatonOf m) (movesAlong P q l)), move-few p q, moves-few l q)
 
-  pub trail-most : unsafe Y ≡ true → length (spellAll (ourTrailNumbers m)) ≤ maxBytes
-  trail-most u =
-      omega (arith, spell-all-few (ourTrailNumbers m), numbers-are, moves-few (trailStates Y) (Y .start), trail-few u, size-few)
+  module _ (path : List ℕ) (few : length path ≤ states m) where
+    pub trail-most : length (spellAll (pathNumbers m path)) ≤ maxBytes
+    unfolding pathNumbers trailNumbers
+    trail-most = omega (arith, spell-all-few (pathNumbers m path), moves-few path (Y .start), size-few)
 
-  pub trail-room : unsafe Y ≡ true
-      → 0 + length (spell 2) + length (spell (length (trailStates Y))) + length (bytesFrom (Y .start) (trailStates Y)) ≤ maxBytes
-  trail-room u =
-      omega (
-        arith,
-        trail-most u,
-        ap length trail-bytes,
-        length-append (spell 2) (spell (length (trailStates Y)) ++ bytesFrom (Y .start) (trailStates Y)),
-        length-append (spell (length (trailStates Y))) (bytesFrom (Y .start) (trailStates Y)),
-      )
+    pub trail-room : 0 + length (spell 2) + length (spell (length path)) + length (bytesFrom (Y .start) path) ≤ maxBytes
+    trail-room =
+        omega (
+          arith,
+          trail-most,
+          ap length (trail-bytes path),
+          length-append (spell 2) (spell (length path) ++ bytesFrom (Y .start) path),
+          length-append (spell (length path)) (bytesFrom (Y .start) path),
+        )
 
   -- ---- where it starts
 
@@ -359,9 +339,48 @@ module _ (m : Model) (ok : Lawful m) where
     pub start-fits : m .start * n < maxStates
     start-fits = omega (arith, start-is, trail-start)
 
-  pub trail-as : (start : ℕ) (path : List ℕ) → start ≡ Y .start → path ≡ trailStates Y
-      → spell 2 ++ (spell (length path) ++ bytesFrom start path) ≡ spellAll (ourTrailNumbers m)
-  trail-as start path e f = rw (e, f) (sym trail-bytes)
+  pub trail-as : (start : ℕ) (path : List ℕ) → start ≡ Y .start
+      → spell 2 ++ (spell (length path) ++ bytesFrom start path) ≡ spellAll (pathNumbers m path)
+  trail-as start path e = rw e (sym (trail-bytes path))
+
+  -- ---- our trail, with touch steps or without
+
+  module _ (touch : Bool) where
+    pub touch-path : pathNumbers m (trailStates (withTouch touch Y)) ≡ 2 ∷ trailNumbers (automatonOf m) (ourMoves (labelledWithTouch touch P))
+    unfolding pathNumbers ourMoves labelledWithTouch withTouch labelledOf
+    touch-path =
+        ap (λ (vs : List Move). 2 ∷ trailNumbers (automatonOf m) vs) (sym (touch-moves touch P (trailStates (withTouch touch Y)) (Y .start)))
+
+    module _ (u : unsafe (withTouch touch Y) ≡ true) where
+      laws : Laws (withTouch touch Y)
+      laws = touch-laws touch Y (system-laws m ok)
+
+      some-trail : (l : List ℕ) × Trail (withTouch touch Y) l
+      some-trail = unsafe-trail (withTouch touch Y) laws (unsafe-is (withTouch touch Y) laws u)
+
+      pub touch-few : length (trailStates (withTouch touch Y)) < states m
+      unfolding withTouch
+      touch-few =
+          omega (arith, trail-length (withTouch touch Y) laws, trail-steps-below (withTouch touch Y) laws (some-trail .0) (some-trail .1), size-states m)
+
+      pub touch-leads : LeadsThrough m (Y .start) (trailStates (withTouch touch Y))
+      unfolding withTouch
+      touch-leads =
+          let t = trail-passes (withTouch touch Y) laws (some-trail .0) (some-trail .1) in
+          record {
+            below = omega (arith, system-laws m ok .allowed-below (Y .start) (system-laws m ok .start-allowed), size-states m);
+            end = t .0;
+            walk = touch-walk touch Y (system-laws m ok) (t .1);
+          }
+
+  module _ (u : unsafe Y ≡ true) where
+    pub trail-few : length (trailStates Y) < states m
+    unfolding withTouch
+    trail-few = touch-few true u
+
+    pub trail-leads : LeadsThrough m (Y .start) (trailStates Y)
+    unfolding withTouch
+    trail-leads = touch-leads true u
 
 -- ---- on the way through the path
 

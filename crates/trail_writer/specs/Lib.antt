@@ -1,2 +1,6 @@
--- What the writer of trails is lent.
+-- The writer of trails.
+
+-- What it is lent.
 pub mod Lent
+-- The numbers of a trail by its states.
+pub mod Path

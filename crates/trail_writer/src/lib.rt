@@ -1,12 +1,11 @@
-// Our trail spelled into a lent output, or measured with none, from the states that it comes to.
+// A trail spelled into a lent output, or measured with none, from the states that it comes to.
 
 ghost use mathlib.Core.Path.{_≡_};
 ghost use mathlib.Core.Bool.{true};
 ghost use Prim.Native.Nat.{_+_, _<_, _≤_};
 ghost use lib.ListN.{length};
 ghost use Rattle.theory.specs.System.{onClosedWalk};
-ghost use Rattle.theory.specs.Marked.{step, unsafe};
-ghost use Rattle.theory.specs.Trail.{trailStates};
+ghost use Rattle.theory.specs.Marked.{step};
 ghost use Rattle.theory.specs.Labels.{closedWalkLabels};
 ghost use Rattle.theory.specs.Replay.{touch-to, ourMove, movesAlong};
 ghost use Rattle.number.specs.Number.{spellAll};
@@ -16,8 +15,8 @@ ghost use Rattle.graph.specs.States.{Listed, states};
 ghost use Rattle.successors.specs.Flow.{FlowLists};
 ghost use Rattle.spelling.specs.Lays.{Lays, maxBytes};
 ghost use Rattle.replay.specs.Spelling.{moveNumbers, movesNumbers};
-ghost use Rattle.evidence.specs.Ours.{ourTrailNumbers};
 ghost use Rattle.trail_writer.specs.Lent.{WalkRoom, LeadsThrough};
+ghost use Rattle.trail_writer.specs.Path.{pathNumbers};
 use limits::Word;
 use limits::cast::from_word;
 use model::Model;
@@ -122,7 +121,7 @@ fn put_moves(
     end
 }
 
-// 2, the step count, the steps.
+// The trail from the start through given states: 2, the step count, the steps.
 pub fn put_trail(
     m: Model,
     table: &[u32],
@@ -136,9 +135,9 @@ pub fn put_trail(
 ) -> usize
     requires { ⌜
         WalkRoom m (now table) (now first) (now targets) (length (now level)) (length (now queue)) (length (now walk))
-        × (unsafe (systemOfModel m) ≡ true) × (now path ≡ trailStates (systemOfModel m))
+        × LeadsThrough m (systemOfModel m .start) (now path) × (length (now path) ≤ states m)
         ⌝ }
-    ensures { λ r. ⌜ Lays (now (out .entry)) (now (out .exit)) 0 r (spellAll (ourTrailNumbers m)) ⌝ }
+    ensures { λ r. ⌜ Lays (now (out .entry)) (now (out .exit)) 0 r (spellAll (pathNumbers m (now (path .entry)))) ⌝ }
 {
     let start = m.start as usize * region_table::count(m.clocks, m.ceiling) as usize;
     let a = spelling::put(out, 0, 2);

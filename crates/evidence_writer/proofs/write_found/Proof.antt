@@ -1,27 +1,18 @@
 -- `evidence_writer::write_found` meets its contract.
 use borrow.Author.Needs.{needs}
-use native.Mathlib.Omega.{arith}
-use mathlib.Core.Path.{sym, _∙_}
+use mathlib.Core.Path.{_∙_}
 use mathlib.Core.Bool.{true, false}
-use lib.Seq.{length-take-le}
-use Rattle.graph.proofs.Plan.{size-states}
-use Rattle.graph.specs.Plan.{systemOfModel}
-use Rattle.graph.proofs.Models.{system-laws}
 use Rattle.graph.proofs.States.{clocks-of, ceiling-of}
-use Rattle.survey.proofs.Tables.{start-product}
-use Rattle.survey.proofs.Forbidden.{kinds, forbids-by}
-use Rattle.evidence_writer.proofs.Verdict.{unsafe-by, safe-by, trail-asked, trail-told}
+use Rattle.survey.proofs.Forbidden.{kinds}
+use Rattle.evidence_writer.proofs.Verdict.{scratch-of, steps-by, unsafe-by, safe-by}
 use Rattle.evidence_writer.proofs.Output.{written-as}
 use Rattle.evidence_writer.proofs.write_found.Statement.{statement}
 use Rattle.evidence_writer.proofs.write_found.Tie as tie
 
 count-requires : tie.Need-count-requires
 count-requires c κs =
-    let start = c .before .before .before .before .before .before .before .before .before .before in
-    let m = start .args .m in
-    let ok = start .pre .0 in
-    let K = start .pre .4 in
-    (clocks-of m ok, ceiling-of m ok)
+    let start = c .before .before .before .before .before .before .before .before .before .before .before in
+    (clocks-of (start .args .m) (start .pre .0 .lawful), ceiling-of (start .args .m) (start .pre .0 .lawful))
 
 from-short-requires : tie.Need-from-short-requires
 from-short-requires c κs = search needs
@@ -31,80 +22,22 @@ slice-aggregate-fewest c = search needs
 
 fewest-requires : tie.Need-fewest-requires
 fewest-requires c κs =
-    let start = c .before .before .before .before .before .before .before .before .before .before .before .before .before .before in
-    let m = start .args .m in
-    let ok = start .pre .0 in
-    let K = start .pre .4 in
-    let r = c .before .before .from-short .result in
+    let start = c .before .before .before .before .before .before .before .before .before .before .before .before .before .before .before in
+    let K = start .pre .0 in
     let e = c .before .before .from-short .ensures ∙ c .before .before .before .count .ensures in
-    kinds m ok (start .args .distance .now) r (K .surveyed .distances) e
+    kinds (start .args .m) (K .lawful) (start .args .touch) (start .args .distance .now) _ (K .levelled .surveyed .distances) e
 
-from-byte-requires : tie.Need-from-byte-requires
-from-byte-requires c κs = search needs
-
-mul-start : tie.Need-mul-start
-mul-start c =
-    let start = c .before .before .before .before .before .before .before .before .before .before .before .before .before .before .before .before .before in
-    let m = start .args .m in
-    let ok = start .pre .0 in
-    let K = start .pre .4 in
-    let r = c .before .before .before .before .before .from-short .result in
-    let e = c .before .before .before .before .before .from-short .ensures ∙ c .before .before .before .before .before .before .count .ensures in
-    rw (c .from-byte .ensures) (omega (arith, start-product m ok r e))
-
-slice-aggregate-trail-states : tie.Need-slice-aggregate-trail-states
-slice-aggregate-trail-states c = search needs
-
-trail-states-requires : tie.Need-trail-states-requires
-trail-states-requires c κs =
+write-trail-for-requires : tie.Need-write-trail-for-requires
+write-trail-for-requires c κs =
     let start = c .before .before .before .before .before .before .before .before .before .before .before .before .before .before .before .before .before .before .before .before .before .before in
     let m = start .args .m in
-    let ok = start .pre .0 in
-    let K = start .pre .4 in
-    let r = c .before .before .before .before .before .before .before .before .before .before .from-short .result in
-    let e = c .before .before .before .before .before .before .before .before .before .before .from-short .ensures ∙ c .before .before .before .before .before .before .before .before .before .before .before .count .ensures in
-    let steps = c .before .before .before .before .before .before .before .fewest .result in
-    let s = c .before .before .before .before .before .before .before .fewest .ensures (systemOfModel m) (system-laws m ok) (K .surveyed .distances) (forbids-by m ok r e) in
-    rw (c .before .before .before .before .before .from-byte .ensures) (trail-asked m ok (start .pre .2) (start .pre .3) K r e steps s _ (start .pre .6) (start .pre .5) (c .before .before .before .before .before .before .if1 .taken))
-
-slice-reshare-prefix-write-trail : tie.Need-slice-reshare-prefix-write-trail
-slice-reshare-prefix-write-trail c =
-    let start = c .before .before .before .before .before .before .before .before .before .before .before .before .before .before .before .before .before .before .before .before .before .before .before .before .before .before .before in
-    let m = start .args .m in
-    let ok = start .pre .0 in
-    let K = start .pre .4 in
-    omega (arith, c .before .before .before .before .trail-states .kept .1 .1 .1 .1 .1 .1 .1 .1 .1 .1 .0, start .pre .6, c .before .before .before .before .before .before .before .before .before .before .before .if1 .taken, K .surveyed .distances .long, size-states m)
-
-slice-aggregate-write-trail : tie.Need-slice-aggregate-write-trail
-slice-aggregate-write-trail c =
-    let start = c .before .before .before .before .before .before .before .before .before .before .before .before .before .before .before .before .before .before .before .before .before .before .before .before .before .before .before .before in
-    let m = start .args .m in
-    let ok = start .pre .0 in
-    let K = start .pre .4 in
-    sym (length-take-le _ _ (omega (arith, c .before .before .before .before .before .trail-states .kept .1 .1 .1 .1 .1 .1 .1 .1 .1 .1 .0, start .pre .6, c .before .before .before .before .before .before .before .before .before .before .before .before .if1 .taken, K .surveyed .distances .long, size-states m)))
-
-write-trail-requires : tie.Need-write-trail-requires
-write-trail-requires c κs =
-    let start = c .before .before .before .before .before .before .before .before .before .before .before .before .before .before .before .before .before .before .before .before .before .before .before .before .before .before .before .before .before .before .before .before in
-    let m = start .args .m in
-    let ok = start .pre .0 in
-    let K = start .pre .4 in
-    let r = c .before .before .before .before .before .before .before .before .before .before .before .before .before .before .before .before .before .before .before .before .from-short .result in
-    let e = c .before .before .before .before .before .before .before .before .before .before .before .before .before .before .before .before .before .before .before .before .from-short .ensures ∙ c .before .before .before .before .before .before .before .before .before .before .before .before .before .before .before .before .before .before .before .before .before .count .ensures in
-    let steps = c .before .before .before .before .before .before .before .before .before .before .before .before .before .before .before .before .before .fewest .result in
-    let s = c .before .before .before .before .before .before .before .before .before .before .before .before .before .before .before .before .before .fewest .ensures (systemOfModel m) (system-laws m ok) (K .surveyed .distances) (forbids-by m ok r e) in
-    let states = c .before .before .before .before .before .before .before .before .before .trail-states in (
-      record {
-        lawful = ok;
-        listed = start .pre .1;
-        flow = start .pre .2;
-        level-long = K .surveyed .heights .long;
-        queue-long = states .kept .1 .1 .1 .1 .1 .1 .1 .1 .0 ∙ (K .surveyed .distances .long ∙ size-states m);
-        walk-long = start .pre .5;
-      },
-      unsafe-by m ok (start .pre .2) (start .pre .3) K r e steps s (c .before .before .before .before .before .before .before .before .before .before .before .before .before .before .before .before .if1 .taken),
-      states .ensures .1 (systemOfModel m) (rw (c .before .before .before .before .before .before .before .before .before .before .before .before .before .before .before .from-byte .ensures) (trail-told m ok (start .pre .2) (start .pre .3) K r e steps s)),
-    )
+    let touch = start .args .touch in
+    let K = start .pre .0 in
+    let r = c .before .before .before .before .before .before .before .before .before .from-short .result in
+    let e = c .before .before .before .before .before .before .before .before .before .from-short .ensures ∙ c .before .before .before .before .before .before .before .before .before .before .count .ensures in
+    let steps = c .before .before .before .before .before .before .fewest .result in
+    let s = steps-by K r e steps (c .before .before .before .before .before .before .fewest .ensures) in
+    (K, (e, s, c .before .before .before .before .before .if1 .taken))
 
 verdict-with-requires : tie.Need-verdict-with-requires
 verdict-with-requires c κs = search needs
@@ -126,28 +59,28 @@ same-length-5 c = search needs
 
 returns : tie.Need-returns
 returns c =
-    let start = c .before .before .before .before .before .before .before .before .before .before .before .before .before .before .before .before .before .before .before .before .before .before .before .before .before .before .before .before .before .before .before .before .before .before .before .before .before .before .before .before .before .before in
+    let start = c .before .before .before .before .before .before .before .before .before .before .before .before .before .before .before .before .before .before .before .before .before .before .before .before .before .before .before .before .before .before .before .before .before .before in
     let m = start .args .m in
-    let ok = start .pre .0 in
-    let K = start .pre .4 in
-    let r = c .before .before .before .before .before .before .before .before .before .before .before .before .before .before .before .before .before .before .before .before .before .before .before .before .before .before .before .before .before .before .from-short .result in
-    let e = c .before .before .before .before .before .before .before .before .before .before .before .before .before .before .before .before .before .before .before .before .before .before .before .before .before .before .before .before .before .before .from-short .ensures ∙ c .before .before .before .before .before .before .before .before .before .before .before .before .before .before .before .before .before .before .before .before .before .before .before .before .before .before .before .before .before .before .before .count .ensures in
-    let steps = c .before .before .before .before .before .before .before .before .before .before .before .before .before .before .before .before .before .before .before .before .before .before .before .before .before .before .before .fewest .result in
-    let s = c .before .before .before .before .before .before .before .before .before .before .before .before .before .before .before .before .before .before .before .before .before .before .before .before .before .before .before .fewest .ensures (systemOfModel m) (system-laws m ok) (K .surveyed .distances) (forbids-by m ok r e) in
-    let wrote = c .before .before .before .before .before .before .before .before .before .write-trail .ensures in
-    (c .verdict-with .ensures ∙ written-as m true _ _ (unsafe-by m ok (start .pre .2) (start .pre .3) K r e steps s (c .before .before .before .before .before .before .before .before .before .before .before .before .before .before .before .before .before .before .before .before .before .before .before .before .before .before .if1 .taken)) (wrote .0), wrote .1)
+    let touch = start .args .touch in
+    let K = start .pre .0 in
+    let r = c .before .before .before .before .before .before .before .before .before .before .before .before .before .before .before .before .before .before .before .before .before .from-short .result in
+    let e = c .before .before .before .before .before .before .before .before .before .before .before .before .before .before .before .before .before .before .before .before .before .from-short .ensures ∙ c .before .before .before .before .before .before .before .before .before .before .before .before .before .before .before .before .before .before .before .before .before .before .count .ensures in
+    let steps = c .before .before .before .before .before .before .before .before .before .before .before .before .before .before .before .before .before .before .fewest .result in
+    let s = steps-by K r e steps (c .before .before .before .before .before .before .before .before .before .before .before .before .before .before .before .before .before .before .fewest .ensures) in
+    let wrote = c .before .before .before .before .before .before .before .before .before .before .before .write-trail-for .ensures in
+    (c .verdict-with .ensures ∙ written-as touch m true _ _ (unsafe-by K r e steps s (c .before .before .before .before .before .before .before .before .before .before .before .before .before .before .before .before .before .if1 .taken)) (wrote .0), wrote .1)
 
-write-sheet-requires : tie.Need-write-sheet-requires
-write-sheet-requires c κs =
-    let start = c .before .before .before .before .before .before .before .before .before .before .before .before .before .before .before .before .before .before .before in
+write-sheet-for-requires : tie.Need-write-sheet-for-requires
+write-sheet-for-requires c κs =
+    let start = c .before .before .before .before .before .before .before .before .before .before .before .before .before .before .before .before .before .before .before .before .before .before .before in
     let m = start .args .m in
-    let ok = start .pre .0 in
-    let K = start .pre .4 in
-    let r = c .before .before .before .before .before .before .before .from-short .result in
-    let e = c .before .before .before .before .before .before .before .from-short .ensures ∙ c .before .before .before .before .before .before .before .before .count .ensures in
-    let steps = c .before .before .before .before .fewest .result in
-    let s = c .before .before .before .before .fewest .ensures (systemOfModel m) (system-laws m ok) (K .surveyed .distances) (forbids-by m ok r e) in
-    (ok, K .surveyed, safe-by m ok (start .pre .2) (start .pre .3) K r e steps s (c .before .before .before .if1 .left))
+    let touch = start .args .touch in
+    let K = start .pre .0 in
+    let r = c .before .before .before .before .before .before .before .before .before .before .from-short .result in
+    let e = c .before .before .before .before .before .before .before .before .before .before .from-short .ensures ∙ c .before .before .before .before .before .before .before .before .before .before .before .count .ensures in
+    let steps = c .before .before .before .before .before .before .before .fewest .result in
+    let s = steps-by K r e steps (c .before .before .before .before .before .before .before .fewest .ensures) in
+    ((K .lawful, K .flow, start .pre .1), ((K .levelled .surveyed, scratch-of K), safe-by K r e steps s (c .before .before .before .before .before .before .if1 .left)))
 
 verdict-with-requires-2 : tie.Need-verdict-with-requires-2
 verdict-with-requires-2 c κs = search needs
@@ -161,18 +94,27 @@ same-length-7 c = search needs
 same-length-8 : tie.Need-same-length-8
 same-length-8 c = search needs
 
+same-length-9 : tie.Need-same-length-9
+same-length-9 c = search needs
+
+same-length-10 : tie.Need-same-length-10
+same-length-10 c = search needs
+
+same-length-11 : tie.Need-same-length-11
+same-length-11 c = search needs
+
 returns-2 : tie.Need-returns-2
 returns-2 c =
-    let start = c .before .before .before .before .before .before .before .before .before .before .before .before .before .before .before .before .before .before .before .before .before .before .before in
+    let start = c .before .before .before .before .before .before .before .before .before .before .before .before .before .before .before .before .before .before .before .before .before .before .before .before .before .before .before .before .before .before .before .before .before .before .before .before .before in
     let m = start .args .m in
-    let ok = start .pre .0 in
-    let K = start .pre .4 in
-    let r = c .before .before .before .before .before .before .before .before .before .before .before .from-short .result in
-    let e = c .before .before .before .before .before .before .before .before .before .before .before .from-short .ensures ∙ c .before .before .before .before .before .before .before .before .before .before .before .before .count .ensures in
-    let steps = c .before .before .before .before .before .before .before .before .fewest .result in
-    let s = c .before .before .before .before .before .before .before .before .fewest .ensures (systemOfModel m) (system-laws m ok) (K .surveyed .distances) (forbids-by m ok r e) in
-    let wrote = c .before .before .before .write-sheet .ensures in
-    (c .verdict-with2 .ensures ∙ written-as m false _ _ (safe-by m ok (start .pre .2) (start .pre .3) K r e steps s (c .before .before .before .before .before .before .before .if1 .left)) (wrote .0), wrote .1)
+    let touch = start .args .touch in
+    let K = start .pre .0 in
+    let r = c .before .before .before .before .before .before .before .before .before .before .before .before .before .before .before .before .before .before .before .before .before .before .before .before .from-short .result in
+    let e = c .before .before .before .before .before .before .before .before .before .before .before .before .before .before .before .before .before .before .before .before .before .before .before .before .from-short .ensures ∙ c .before .before .before .before .before .before .before .before .before .before .before .before .before .before .before .before .before .before .before .before .before .before .before .before .before .count .ensures in
+    let steps = c .before .before .before .before .before .before .before .before .before .before .before .before .before .before .before .before .before .before .before .before .before .fewest .result in
+    let s = steps-by K r e steps (c .before .before .before .before .before .before .before .before .before .before .before .before .before .before .before .before .before .before .before .before .before .fewest .ensures) in
+    let wrote = c .before .before .before .before .before .before .before .before .before .before .before .before .before .write-sheet-for .ensures in
+    (c .verdict-with2 .ensures ∙ written-as touch m false _ _ (safe-by K r e steps s (c .before .before .before .before .before .before .before .before .before .before .before .before .before .before .before .before .before .before .before .before .if1 .left)) (wrote .0), wrote .1)
 
 pub write-found-spec : {M : Type 1} → statement M
 write-found-spec =
@@ -182,13 +124,7 @@ write-found-spec =
     from-short-requires
     slice-aggregate-fewest
     fewest-requires
-    from-byte-requires
-    mul-start
-    slice-aggregate-trail-states
-    trail-states-requires
-    slice-reshare-prefix-write-trail
-    slice-aggregate-write-trail
-    write-trail-requires
+    write-trail-for-requires
     verdict-with-requires
     same-length
     same-length-2
@@ -196,9 +132,12 @@ write-found-spec =
     same-length-4
     same-length-5
     returns
-    write-sheet-requires
+    write-sheet-for-requires
     verdict-with-requires-2
     same-length-6
     same-length-7
     same-length-8
+    same-length-9
+    same-length-10
+    same-length-11
     returns-2)

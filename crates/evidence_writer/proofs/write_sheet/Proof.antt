@@ -27,10 +27,11 @@ returns : tie.Need-returns
 returns c =
     let start = c .before .before .before .before .before .before .before .before .before .before .before .before in
     let m = start .args .m in
-    let is = sheet-is m (start .pre .2) in
+    let touch = start .args .touch in
+    let is = sheet-is touch m (start .pre .2) in
     let measure = c .before .before .before .before .before .before .before .put-sheet .ensures in
-    let kept = none-lent (c .before .before .before .before .before .before .before .put-sheet .last .1 .1 .1 .0) (start .args .out .now) (measure .long) in
-    (measured m is measure, laid-in m is kept (c .before .before .put-sheet2 .ensures) (omega (arith, c .before .before .before .before .if1 .taken, measured m is measure, measured m is (c .before .before .put-sheet2 .ensures), ap length kept)))
+    let kept = none-lent (c .before .before .before .before .before .before .before .put-sheet .last .1 .1 .1 .1 .0) (start .args .out .now) (measure .long) in
+    (measured touch m is measure, laid-in touch m is kept (c .before .before .put-sheet2 .ensures) (omega (arith, c .before .before .before .before .if1 .taken, measured touch m is measure, measured touch m is (c .before .before .put-sheet2 .ensures), ap length kept)))
 
 same-length-2 : tie.Need-same-length-2
 same-length-2 c = search needs
@@ -39,10 +40,11 @@ returns-2 : tie.Need-returns-2
 returns-2 c =
     let start = c .before .before .before .before .before .before .before .before in
     let m = start .args .m in
-    let is = sheet-is m (start .pre .2) in
+    let touch = start .args .touch in
+    let is = sheet-is touch m (start .pre .2) in
     let measure = c .before .before .before .put-sheet .ensures in
-    let kept = none-lent (c .before .before .before .put-sheet .last .1 .1 .1 .0) (start .args .out .now) (measure .long) in
-    (measured m is measure, left-out m kept (measured m is measure) (omega (arith, c .if1 .left, ap length kept)))
+    let kept = none-lent (c .before .before .before .put-sheet .last .1 .1 .1 .1 .0) (start .args .out .now) (measure .long) in
+    (measured touch m is measure, left-out touch m kept (measured touch m is measure) (omega (arith, c .if1 .left, ap length kept)))
 
 pub write-sheet-spec : {M : Type 1} → statement M
 write-sheet-spec =

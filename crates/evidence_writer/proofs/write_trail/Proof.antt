@@ -4,7 +4,7 @@ use mathlib.Core.Path.{ap, _∙_}
 use lib.ListN.{length}
 use borrow.Author.Needs.{needs}
 use Rattle.spelling.proofs.Lays.{none-lent}
-use Rattle.evidence_writer.proofs.Output.{trail-is, measured, laid-in, left-out}
+use Rattle.evidence_writer.proofs.Output.{trail-goes, trail-is, measured, laid-in, left-out}
 use Rattle.evidence_writer.proofs.write_trail.Statement.{statement}
 use Rattle.evidence_writer.proofs.write_trail.Tie as tie
 
@@ -15,12 +15,16 @@ slice-aggregate-put-trail : tie.Need-slice-aggregate-put-trail
 slice-aggregate-put-trail c = search needs
 
 put-trail-requires : tie.Need-put-trail-requires
-put-trail-requires c κs = search needs
+put-trail-requires c κs =
+    let start = c .before .before .before .before .before .before .before .before .before .before .before .before in
+    let goes = trail-goes (start .args .touch) (start .args .m) (start .pre .0 .lawful) (start .pre .1) (start .args .path .now) (start .pre .2) in
+    (start .pre .0, goes .0, goes .1)
 
 put-trail-requires-2 : tie.Need-put-trail-requires-2
 put-trail-requires-2 c κs =
     let start = c .before .before .before .before .before .before .before .before .before .before .before .before .before .before .before .before .before .before .before .before .before .before .before .before .before .before in
     let R = start .pre .0 in
+    let goes = trail-goes (start .args .touch) (start .args .m) (R .lawful) (start .pre .1) (start .args .path .now) (start .pre .2) in
     let kept = c .before .before .before .before .before .before .before .before .before .before .before .before .before .put-trail .kept in (
       record {
         lawful = R .lawful;
@@ -30,8 +34,8 @@ put-trail-requires-2 c κs =
         queue-long = kept .1 .1 .1 .1 .1 .1 .0 ∙ R .queue-long;
         walk-long = kept .1 .1 .1 .1 .1 .1 .1 .0 ∙ R .walk-long;
       },
-      start .pre .1,
-      start .pre .2,
+      goes .0,
+      goes .1,
     )
 
 same-length : tie.Need-same-length
@@ -50,10 +54,11 @@ returns : tie.Need-returns
 returns c =
     let start = c .before .before .before .before .before .before .before .before .before .before .before .before .before .before .before .before .before .before .before .before .before .before .before .before .before .before .before .before .before .before .before .before .before .before .before in
     let m = start .args .m in
-    let is = trail-is m (start .pre .1) in
+    let touch = start .args .touch in
+    let is = trail-is touch m (start .pre .0 .lawful) (start .pre .1) (start .args .path .now) (start .pre .2) in
     let measure = c .before .before .before .before .before .before .before .before .before .before .before .before .before .before .before .before .before .before .before .before .before .before .put-trail .ensures in
     let kept = none-lent (c .before .before .before .before .before .before .before .before .before .before .before .before .before .before .before .before .before .before .before .before .before .before .put-trail .last .1 .1 .1 .1 .1 .1 .1 .1 .0) (start .args .out .now) (measure .long) in
-    (measured m is measure, laid-in m is kept (c .before .before .before .before .before .before .before .before .put-trail2 .ensures) (omega (arith, c .before .before .before .before .before .before .before .before .before .before .before .before .before .if1 .taken, measured m is measure, measured m is (c .before .before .before .before .before .before .before .before .put-trail2 .ensures), ap length kept)))
+    (measured touch m is measure, laid-in touch m is kept (c .before .before .before .before .before .before .before .before .put-trail2 .ensures) (omega (arith, c .before .before .before .before .before .before .before .before .before .before .before .before .before .if1 .taken, measured touch m is measure, measured touch m is (c .before .before .before .before .before .before .before .before .put-trail2 .ensures), ap length kept)))
 
 same-length-5 : tie.Need-same-length-5
 same-length-5 c = search needs
@@ -71,10 +76,11 @@ returns-2 : tie.Need-returns-2
 returns-2 c =
     let start = c .before .before .before .before .before .before .before .before .before .before .before .before .before .before .before .before .before .before .before .before .before .before in
     let m = start .args .m in
-    let is = trail-is m (start .pre .1) in
+    let touch = start .args .touch in
+    let is = trail-is touch m (start .pre .0 .lawful) (start .pre .1) (start .args .path .now) (start .pre .2) in
     let measure = c .before .before .before .before .before .before .before .before .before .put-trail .ensures in
     let kept = none-lent (c .before .before .before .before .before .before .before .before .before .put-trail .last .1 .1 .1 .1 .1 .1 .1 .1 .0) (start .args .out .now) (measure .long) in
-    (measured m is measure, left-out m kept (measured m is measure) (omega (arith, c .if1 .left, ap length kept)))
+    (measured touch m is measure, left-out touch m kept (measured touch m is measure) (omega (arith, c .if1 .left, ap length kept)))
 
 pub write-trail-spec : {M : Type 1} → statement M
 write-trail-spec =

@@ -36,8 +36,8 @@ returns c =
     let lent = c .before .before .before .before .before .before .before .before .before .before .before .before .before .before .before .before .before .before .before .before .before .before .before .before .before .before .before .before .before .before .before .before .before .before .before .before .pre .0 .1 in
     let kept = c .before .before .before .before .before .before .before .before .before .before .before .before .before .before .before .before .before .before .before .before .before .before .before .before .before .before .survey .kept in (
       c .before .before .before .before .before .before .before .before .before .before .before .before .before .before .before .put-marks .ensures,
-      zeroed (c .before .before .before .before .before .before .before .before .clear-all .ensures) (kept .1 .0 ∙ lent .first) (kept .1 .1 .0 ∙ lent .second)
-          (kept .1 .1 .1 .0 ∙ lent .third) (kept .1 .1 .1 .1 .0 ∙ lent .fourth),
+      zeroed (c .before .before .before .before .before .before .before .before .clear-all .ensures) (kept .1 .1 .0 ∙ lent .first) (kept .1 .1 .1 .0 ∙ lent .second)
+          (kept .1 .1 .1 .1 .0 ∙ lent .third) (kept .1 .1 .1 .1 .1 .0 ∙ lent .fourth),
     )
 
 pub mark-model-spec : {M : Type 1} → statement M

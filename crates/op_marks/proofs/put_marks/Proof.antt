@@ -16,11 +16,11 @@ use Rattle.op_marks.proofs.put_marks.Statement.{statement}
 use Rattle.op_marks.proofs.put_marks.Tie as tie
 
 abbrev Inv-loop : tie.InvT-loop
-Inv-loop distances out₀ p₀ out p =
+Inv-loop touch distances out₀ p₀ out p =
     (p ≤ length distances) × (length out ≡ length out₀) × ((k : ℕ) → k < p → getD out k 0 ≡ bit (ltb 0 (getD distances k 0)))
 
 abbrev μ-loop : tie.MeasureT-loop
-μ-loop distances out₀ p₀ out p = length distances - p
+μ-loop touch distances out₀ p₀ out p = length distances - p
 
 loop-holds : tie.Need-loop-holds Inv-loop μ-loop
 loop-holds c = (omega arith, refl, λ k b. absurd (omega arith))

@@ -32,8 +32,8 @@ returns c =
     let write = c .before .before .before .before .before .before .before .before .before .before .before .before .before .before .before .before .before .before .before .before .before .before .before .write in
     let kept = write .kept in (
       write .ensures,
-      zeroed (c .before .before .before .before .before .before .before .before .clear-all .ensures) (kept .1 .0 ∙ lent .first) (kept .1 .1 .0 ∙ lent .second)
-          (kept .1 .1 .1 .0 ∙ lent .third) (kept .1 .1 .1 .1 .0 ∙ lent .fourth),
+      zeroed (c .before .before .before .before .before .before .before .before .clear-all .ensures) (kept .1 .1 .0 ∙ lent .first) (kept .1 .1 .1 .0 ∙ lent .second)
+          (kept .1 .1 .1 .1 .0 ∙ lent .third) (kept .1 .1 .1 .1 .1 .0 ∙ lent .fourth),
     )
 
 pub write-model-spec : {M : Type 1} → statement M

@@ -41,8 +41,9 @@ returns : tie.Need-returns
 returns c =
     let l = c .before .before .before .before in
     let s = l .before .before .before .before in
-    shapes-filled (s .args .shapes .now) (c .before .before .fill-corners .last .1 .1 .1 .0) (l .before .corners-at .ensures ∙ ap cornersAt (entries s))
-    (l .links-at .ensures ∙ ap linksAt (entries s)) (s .pre .3) (c .before .shapes .given .0) (c .before .before .fill-corners .ensures)
+    let filled = c .before .before .fill-corners in
+    shapes-filled (s .args .shapes .now) (filled .last .1 .1 .1 .0) (l .before .corners-at .ensures ∙ ap cornersAt (entries s))
+    (l .links-at .ensures ∙ ap linksAt (entries s)) (s .pre .3) (c .before .shapes .given .0) (filled .ensures)
 
 same-length : tie.Need-same-length
 same-length c = returns c .long ∙ sym (c .before .before .before .before .before .before .before .before .pre .3 .long)

@@ -10,11 +10,11 @@ use Rattle.sheet_writer.proofs.fill_sheet.Statement.{statement}
 use Rattle.sheet_writer.proofs.fill_sheet.Tie as tie
 
 abbrev Inv-loop : tie.InvT-loop
-Inv-loop heights distances sheet₀ p₀ sheet p =
-    (p ≤ length heights) × (length sheet ≡ length sheet₀) × ((k : ℕ) → k < p → getD sheet k 0 ≡ found heights distances k)
+Inv-loop touch heights marks sheet₀ p₀ sheet p =
+    (p ≤ length heights) × (length sheet ≡ length sheet₀) × ((k : ℕ) → k < p → getD sheet k 0 ≡ found heights marks k)
 
 abbrev μ-loop : tie.MeasureT-loop
-μ-loop heights distances sheet₀ p₀ sheet p = length heights - p
+μ-loop touch heights marks sheet₀ p₀ sheet p = length heights - p
 
 loop-holds : tie.Need-loop-holds Inv-loop μ-loop
 loop-holds c = (omega arith, refl, λ k b. absurd (omega arith))
@@ -31,12 +31,12 @@ mul-state-number-2 c = search needs
 shared-slice-read-state-number-2 : tie.Need-shared-slice-read-state-number-2 Inv-loop μ-loop
 shared-slice-read-state-number-2 c =
     let start = c .before .before .before .before .before .before .before in
-    omega (arith, same-long (start .pre .0) (start .pre .1))
+    omega (arith, same-long (start .args .touch) (start .pre .0) (start .pre .1))
 
 state-number-requires : tie.Need-state-number-requires Inv-loop μ-loop
 state-number-requires c κs =
     let start = c .before .before .before .before .before .before .before in
-    height-fits (start .pre .0) (start .pre .1) (c .before .before .before .loop .p) (omega arith)
+    height-fits (start .args .touch) (start .pre .0) (start .pre .1) (c .before .before .before .loop .p) (omega arith)
 
 to-word-requires : tie.Need-to-word-requires Inv-loop μ-loop
 to-word-requires c κs = omega (arith, c .state-number .ensures .1)
@@ -61,7 +61,7 @@ loop-again c =
     let loop = c .before .before .before .before .before .loop in (
       omega arith,
       length-set (loop .sheet) (loop .p) (c .to-word .result) ∙ loop .inv .1,
-      stored-next (found (start .args .heights .now) (start .args .distances .now)) (loop .sheet) (loop .p) (c .to-word .result) (slice-write-sheet c)
+      stored-next (found (start .args .heights .now) (start .args .marks .now)) (loop .sheet) (loop .p) (c .to-word .result) (slice-write-sheet c)
           (c .to-word .ensures ∙ c .before .state-number .ensures .0) (loop .inv .2),
     )
 
@@ -72,7 +72,7 @@ returns : tie.Need-returns Inv-loop μ-loop
 returns c =
     let start = c .before .before .before .before .before in
     let loop = c .before .loop in
-    all-stored (start .pre .0) (start .pre .1) (loop .sheet) (loop .p) (loop .inv .1 ∙ start .pre .2) (omega arith) (loop .inv .2)
+    all-stored (start .args .touch) (start .pre .0) (start .pre .1) (loop .sheet) (loop .p) (loop .inv .1 ∙ start .pre .2) (omega arith) (loop .inv .2)
 
 pub fill-sheet-spec : {M : Type 1} → statement M
 fill-sheet-spec =

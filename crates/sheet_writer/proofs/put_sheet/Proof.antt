@@ -14,10 +14,10 @@ use Rattle.sheet_writer.proofs.put_sheet.Tie as tie
 
 -- the number 1 stands before `end₀`
 abbrev Inv-loop : tie.InvT-loop
-Inv-loop heights distances out₀ end₀ p₀ out end p = (p ≤ length heights) × Lays out₀ out end₀ end (spellAll (tab p (found heights distances)))
+Inv-loop touch heights marks out₀ end₀ p₀ out end p = (p ≤ length heights) × Lays out₀ out end₀ end (spellAll (tab p (found heights marks)))
 
 abbrev μ-loop : tie.MeasureT-loop
-μ-loop heights distances out₀ end₀ p₀ out end p = length heights - p
+μ-loop touch heights marks out₀ end₀ p₀ out end p = length heights - p
 
 put-requires : tie.Need-put-requires Inv-loop μ-loop
 put-requires c κs = (omega arith, omega (arith, spell-few 1))
@@ -37,13 +37,13 @@ mul-state-number-2 c = search needs
 shared-slice-read-state-number-2 : tie.Need-shared-slice-read-state-number-2 Inv-loop μ-loop
 shared-slice-read-state-number-2 c =
     let start = c .before .before .before .before .before .before .before .before .before .before .before .before in
-    omega (arith, same-long (start .pre .0) (start .pre .1))
+    omega (arith, same-long (start .args .touch) (start .pre .0) (start .pre .1))
 
 state-number-requires : tie.Need-state-number-requires Inv-loop μ-loop
 state-number-requires c κs =
     let loop = c .before .before .before .before in
     let start = loop .before .before .before .before .before .before .before .before in
-    height-fits (start .pre .0) (start .pre .1) (loop .loop .p) (c .before .before .before .loop-test .taken)
+    height-fits (start .args .touch) (start .pre .0) (start .pre .1) (loop .loop .p) (c .before .before .before .loop-test .taken)
 
 cast-put : tie.Need-cast-put Inv-loop μ-loop
 cast-put c = omega (arith, c .state-number .ensures .1)
@@ -53,7 +53,7 @@ put-requires-2 c κs =
     let loop = c .before .before .before .before .before .loop in
     let first = c .before .before .before .before .before .before .before .before .put in
     let start = c .before .before .before .before .before .before .before .before .before .before .before .before .before in
-    (omega (arith, c .state-number .ensures .1), room-next _ _ (first .ensures) (loop .inv .1) (omega (arith, few-states (start .pre .0) (start .pre .1))))
+    (omega (arith, c .state-number .ensures .1), room-next _ _ (first .ensures) (loop .inv .1) (omega (arith, few-states (start .args .touch) (start .pre .0) (start .pre .1))))
 
 add-p : tie.Need-add-p Inv-loop μ-loop
 add-p c = search needs
@@ -72,7 +72,7 @@ same-length c = c .before .loop .inv .1 .long ∙ c .before .before .before .bef
 returns : tie.Need-returns Inv-loop μ-loop
 returns c =
     let start = c .before .before .before .before .before .before .before .before .before in
-    all-laid (start .pre .0) (start .pre .1) (c .before .before .before .before .put .ensures) (c .before .loop .inv .1) (omega arith)
+    all-laid (start .args .touch) (start .pre .0) (start .pre .1) (c .before .before .before .before .put .ensures) (c .before .loop .inv .1) (omega arith)
 
 pub put-sheet-spec : {M : Type 1} → statement M
 put-sheet-spec =

@@ -35,12 +35,10 @@ link-corners-requires c κs =
 returns-2 : tie.Need-returns-2
 returns-2 c =
     let filled = c .before .before .before .before .before .before .before .before .before .before .before .before in
-    let shapes = filled .fill-tables .ensures .by-region in
+    let start = filled .before .before .before .before .before .before .before .before .before .before .before in
+    let tables = filled .fill-tables .ensures in
     let chained = c .before .before .link-corners .ensures in
-    record {
-      by-state = filled .fill-tables .ensures .by-state;
-      by-region = linked-search _ (linked (entries (filled .before .before .before .before .before .before .before .before .before .before .before)) shapes chained);
-    }
+    record { by-state = tables .by-state; by-region = linked-search _ (linked (entries start) (tables .by-region) chained) }
 
 pub fill-search-tables-spec : {M : Type 1} → statement M
 fill-search-tables-spec =

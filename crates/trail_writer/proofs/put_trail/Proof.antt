@@ -1,13 +1,8 @@
 -- `trail_writer::trail::put_trail` meets its contract.
-use Prim.Native.Nat.{ℕ}
-use mathlib.Core.Path.{ap}
-use mathlib.Core.List.{List}
 use native.Mathlib.Omega.{arith}
-use lib.ListN.{length}
 use borrow.Author.Needs.{needs}
-use Rattle.number.specs.Number.{spell}
 use Rattle.spelling.proofs.Lays.{lays-then, lays-as}
-use Rattle.trail_writer.proofs.Moves.{size-few, start-fits, start-is, trail-few, trail-leads, trail-room, trail-as}
+use Rattle.trail_writer.proofs.Moves.{size-few, start-fits, start-is, trail-room, trail-as}
 use Rattle.trail_writer.proofs.put_trail.Statement.{statement}
 use Rattle.trail_writer.proofs.put_trail.Tie as tie
 
@@ -31,9 +26,8 @@ put-requires c κs =
     let m = start .args .m in
     let R = start .pre .0 in
     let ok = R .lawful in
-    let u = start .pre .1 in
-    let path = start .pre .2 in
-    (omega arith, omega (arith, trail-room m ok u))
+    let few = start .pre .2 in
+    (omega arith, omega (arith, trail-room m ok (start .args .path .now) few))
 
 cast-put : tie.Need-cast-put
 cast-put c =
@@ -41,9 +35,8 @@ cast-put c =
     let m = start .args .m in
     let R = start .pre .0 in
     let ok = R .lawful in
-    let u = start .pre .1 in
-    let path = start .pre .2 in
-    omega (arith, ap length path, trail-few m ok u, size-few m ok)
+    let few = start .pre .2 in
+    omega (arith, few, size-few m ok)
 
 put-requires-2 : tie.Need-put-requires-2
 put-requires-2 c κs =
@@ -51,10 +44,9 @@ put-requires-2 c κs =
     let m = start .args .m in
     let R = start .pre .0 in
     let ok = R .lawful in
-    let u = start .pre .1 in
-    let path = start .pre .2 in (
-      omega (arith, ap length path, trail-few m ok u, size-few m ok),
-      omega (arith, trail-room m ok u, c .before .before .before .put .ensures .end, ap (λ (l : List ℕ). length (spell (length l))) path),
+    let few = start .pre .2 in (
+      omega (arith, few, size-few m ok),
+      omega (arith, trail-room m ok (start .args .path .now) few, c .before .before .before .put .ensures .end),
     )
 
 put-moves-requires : tie.Need-put-moves-requires
@@ -63,13 +55,12 @@ put-moves-requires c κs =
     let m = start .args .m in
     let R = start .pre .0 in
     let ok = R .lawful in
-    let u = start .pre .1 in
-    let path = start .pre .2 in
+    let few = start .pre .2 in
     let first = start-is m ok _ (c .before .before .before .before .before .before .before .before .before .before .before .before .count .ensures) in (
       R,
-      rw (first, path) (trail-leads m ok u),
-      omega (arith, ap length path, trail-few m ok u),
-      rw (first, path) (omega (arith, trail-room m ok u, c .before .before .before .before .before .before .before .before .before .before .put .ensures .end, c .before .before .before .before .before .before .put2 .ensures .end, ap (λ (l : List ℕ). length (spell (length l))) path)),
+      rw first (start .pre .1),
+      few,
+      rw first (omega (arith, trail-room m ok (start .args .path .now) few, c .before .before .before .before .before .before .before .before .before .before .put .ensures .end, c .before .before .before .before .before .before .put2 .ensures .end)),
     )
 
 same-length : tie.Need-same-length
@@ -90,11 +81,10 @@ returns c =
     let m = start .args .m in
     let R = start .pre .0 in
     let ok = R .lawful in
-    let u = start .pre .1 in
-    let path = start .pre .2 in
+    let few = start .pre .2 in
     let first = start-is m ok _ (c .before .before .before .before .before .before .before .before .before .before .before .before .before .before .before .before .before .before .before .before .before .count .ensures) in
     lays-as (lays-then (c .before .before .before .before .before .before .before .before .before .before .before .before .before .before .before .before .before .before .before .put .ensures) (lays-then (c .before .before .before .before .before .before .before .before .before .before .before .before .before .before .before .put2 .ensures) (c .before .before .before .before .before .before .before .before .put-moves .ensures)))
-    (trail-as m ok _ _ first path)
+    (trail-as m ok _ _ first)
 
 pub put-trail-spec : {M : Type 1} → statement M
 put-trail-spec =

@@ -1,0 +1,2 @@
+-- What a sheet is made of.
+pub mod Data
