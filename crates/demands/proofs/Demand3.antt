@@ -159,7 +159,7 @@ module _ (bytes lent : List ℕ) (taken : refusal bytes lent ≡ 0) where
   )
 
   -- so it passes with the kind of the computed verdict
-  ours-kind : checkAnswer bytes (ourEvidence m) lent ≡ kindAnswer (cond (unsafe Y) 2 1)
+  pub ours-kind : checkAnswer bytes (ourEvidence m) lent ≡ kindAnswer (cond (unsafe Y) 2 1)
   ours-kind =
       ⊎-elim
       (λ u. rw u (ours-passes .0 (unsafe-states m ok .0 u)))

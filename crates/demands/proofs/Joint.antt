@@ -2,7 +2,7 @@
 -- clock. For them the marked set is to be shown equal to the smallest set that holds the start and is closed under time, jump and face", from bytes.
 use mathlib.Core.Path.{_≡_, refl, sym, ap, ap₂, _∙_}
 use mathlib.Core.Bool.{Bool, true, false, cond, true≢false, false≢true}
-use mathlib.Core.Logic.{_↔_, _⊎_, inl, inr, ⊎-elim}
+use mathlib.Core.Logic.{_↔_, _⊎_, inl, inr}
 use mathlib.Core.List.{List, [], _∷_, _++_}
 use Prim.Native.Nat.{ℕ, suc, _+_, _≤_, _<_}
 use native.Mathlib.Omega.{arith}
@@ -102,15 +102,21 @@ module _ (m : Model) (ok : Lawful m) where
           none-of-both m (OpensAlone m) (λ e. ResetsEvery m e → ⊥) (PartialReset m) (λ e. (λ (p, o). (o, p), λ (o, p). (p, o))) known-partial
 
 -- a trail without a touch, as a test
-no-touch-law : (ms : List Move) → (every noTouch ms ≡ true) ↔ NoTouch ms
+no-touch-is : (ms : List Move) → every noTouch ms ≡ true → NoTouch ms
 unfolding noTouch
-no-touch-law [] = (λ _. NoTouch.none, λ _. refl)
-no-touch-law (flow-by x ∷ ms) = (λ e. NoTouch.by-flow x (no-touch-law ms .0 e), λ (NoTouch.by-flow y n). no-touch-law ms .1 n)
-no-touch-law (face-to p ∷ ms) = (λ e. NoTouch.by-face p (no-touch-law ms .0 e), λ (NoTouch.by-face y n). no-touch-law ms .1 n)
-no-touch-law (touch-to q xs ∷ ms) = (λ e. absurd (false≢true e), λ n. none n)
-  where
-    none : NoTouch (touch-to q xs ∷ ms) → false ≡ true
-    none ()
+no-touch-is [] e = NoTouch.none
+no-touch-is (flow-by x ∷ ms) e = NoTouch.by-flow x (no-touch-is ms e)
+no-touch-is (face-to p ∷ ms) e = NoTouch.by-face p (no-touch-is ms e)
+no-touch-is (touch-to q xs ∷ ms) e = absurd (false≢true e)
+
+is-no-touch : {ms : List Move} → NoTouch ms → every noTouch ms ≡ true
+unfolding noTouch
+is-no-touch NoTouch.none = refl
+is-no-touch (NoTouch.by-flow x n) = is-no-touch n
+is-no-touch (NoTouch.by-face p n) = is-no-touch n
+
+abbrev refusedIf : Bool → ℕ
+refusedIf lacks = cond lacks 17 0
 
 module _ (bytes lent : List ℕ) where
   abbrev m : Model
@@ -142,10 +148,10 @@ module _ (bytes lent : List ℕ) where
   pub seventeen-exactly : (jointRefusal bytes lent ≡ 17) ↔ ((refusal bytes lent ≡ 0) × LacksJointReset m)
   seventeen-exactly = (
     λ e. by e (ℕ-discrete (refusal bytes lent) 0),
-    λ (z, w). joint-past bytes lent z ∙ ap (λ (b : Bool). cond b 17 0) (joint-law m (accepted bytes lent z) .1 w),
+    λ (z, w). joint-past bytes lent z ∙ ap refusedIf (joint-law m (accepted bytes lent z) .1 w),
   )
     where
-      lacks : (b : Bool) → cond b 17 0 ≡ 17 → b ≡ true
+      lacks : (b : Bool) → refusedIf b ≡ 17 → b ≡ true
       lacks true e = refl
       lacks false e = absurd (let z : _≡_ {A = ℕ} 0 17 = e in omega arith)
 
@@ -156,7 +162,7 @@ module _ (bytes lent : List ℕ) where
   free-of : jointRefusal bytes lent ≡ 0 → (refusal bytes lent ≡ 0) × (lacksJointReset m ≡ false)
   free-of e = by (ℕ-discrete (refusal bytes lent) 0)
     where
-      free : (b : Bool) → cond b 17 0 ≡ 0 → b ≡ false
+      free : (b : Bool) → refusedIf b ≡ 0 → b ≡ false
       free true q = absurd (let z : _≡_ {A = ℕ} 17 0 = q in omega arith)
       free false q = refl
 
@@ -175,7 +181,7 @@ module _ (bytes lent : List ℕ) where
         let ok = accepted bytes lent z in
         let none = lacks-law m ok .1 r in
         joint-past bytes lent z
-        ∙ ap (λ (b : Bool). cond b 17 0) (false-unless-true (lacksJointReset m) (λ t. none (joint-law m ok .0 t))),
+        ∙ ap refusedIf (false-unless-true (lacksJointReset m) (λ t. none (joint-law m ok .0 t))),
   )
 
   -- with one clock that is every plan
@@ -187,7 +193,7 @@ module _ (bytes lent : List ℕ) where
           let ok = accepted bytes lent z in
           let resets = accepted-resets bytes (taken-in bytes lent z) in
           let f = false-unless-true (unreset m) (λ t. resets (unreset-law m ok .0 t)) in
-          joint-past bytes lent z ∙ ap (λ (b : Bool). cond b 17 0) (one-clock-joint m ok one f) ∙ sym z
+          joint-past bytes lent z ∙ ap refusedIf (one-clock-joint m ok one f) ∙ sym z
       by (no n) = refused-alike n
 
   module _ (taken : jointRefusal bytes lent ≡ 0) where
@@ -321,7 +327,7 @@ module _ (bytes lent : List ℕ) where
 
       -- "a trail here has no touch"
       pub trail-untouched : NoTouch ours
-      trail-untouched = no-touch-law ours .0 (ours-pass .0)
+      trail-untouched = no-touch-is ours (ours-pass .0)
 
       ours-along : ours ≡ movesAlong P (Y .start) (trailStates (withoutTouch Y))
       unfolding ourMoves labelledOf labelledWithTouch withTouch
@@ -339,16 +345,18 @@ module _ (bytes lent : List ℕ) where
 
     -- ".. and is the fewest-step one without it, ties as in 01": least of all that pass without touch in count, states, kinds, edges
     pub trail-least : (shown : List ℕ) (p : TrailPasses m shown) → NoTouch (p .0) → Lex (trailKey P ours) (trailKey P (p .0))
-    trail-least shown (vs, s, w) n = without-least P (labelled-laws m ok) vs (no-touch-law vs .1 n) (passes-law P vs .1 w)
+    trail-least shown (vs, s, w) n = without-least P (labelled-laws m ok) vs (is-no-touch n) (passes-law P vs .1 w)
 
     -- what is written passes, with the kind of the verdict, whichever scratch the check is lent
     pub evidence-passes : (lent′ : List ℕ) → refusal bytes lent′ ≡ 0
         → checkAnswer bytes (evidenceBy false m) lent′ ≡ kindAnswer (cond (unsafe (withoutTouch Y)) 2 1)
-    evidence-passes lent′ passed′ =
-        ⊎-elim
-        (λ u. rw (same-verdict ∙ u) (trail-exactly bytes lent′ passed′ (evidenceBy false m) .1 (trail-passes (unsafe-states m ok .0 u))))
-        (λ u. rw (same-verdict, sheet-same (safe-states m ok .0 u)) (ours-kind bytes lent′ passed′))
-        (either (unsafe Y))
+    evidence-passes lent′ passed′ = by (either (unsafe Y))
+      where
+        by : (unsafe Y ≡ true) ⊎ (unsafe Y ≡ false) → checkAnswer bytes (evidenceBy false m) lent′ ≡ kindAnswer (cond (unsafe (withoutTouch Y)) 2 1)
+        by (inl u) =
+            trail-exactly bytes lent′ passed′ (evidenceBy false m) .1 (trail-passes (unsafe-states m ok .0 u))
+            ∙ ap (λ (b : Bool). kindAnswer (cond b 2 1)) (sym (same-verdict ∙ u))
+        by (inr u) = rw (same-verdict, sheet-same (safe-states m ok .0 u)) (ours-kind bytes lent′ passed′)
 
     -- ---- what is written, and that it passes
 

@@ -14,7 +14,10 @@ use Rattle.graph.specs.Plan.{systemOfModel}
 use Rattle.evidence.specs.Ours.{ourEvidence}
 use Rattle.call.specs.Call.{modelOf}
 use Rattle.op_check.specs.Check.{checkAnswer}
+use Rattle.op_judge.specs.Judge.{judged}
+use Rattle.op_judge_joint.specs.JudgeJoint.{jointJudged}
 use Rattle.op_soonest.specs.Sounding.{soonestAnswer}
+use Rattle.evidence_writer.specs.Written.{evidenceBy}
 
 pub data Case : Type 0 where
   -- so many clocks, a ceiling: so many regions
@@ -31,6 +34,11 @@ pub data Case : Type 0 where
   rounds-are : List ℕ → ℕ → ℕ → Case
   -- a model, a location: the number and the values that the call for the least time returns
   soonest-gives : List ℕ → ℕ → ℕ → List ℕ → Case
+  -- a model: the number and the values that the judge returns, and those of the quicker one
+  judge-gives : List ℕ → ℕ → List ℕ → Case
+  joint-gives : List ℕ → ℕ → List ℕ → Case
+  -- a model: our evidence without touch
+  joint-is : List ℕ → List ℕ → Case
 
 -- points in the same order
 unfoldable pub samePoints : List (List ℕ) → List (List ℕ) → Bool
@@ -55,6 +63,9 @@ holds (rounds-are model r n) =
     eqb (rounds Y) r && eqb (count (Y .size) (marks Y)) n
 holds (soonest-gives model l r vs) =
     eqb (soonestAnswer model l buffers .number) r && same (soonestAnswer model l buffers .values) vs
+holds (judge-gives model r vs) = eqb (judged model buffers .number) r && same (judged model buffers .values) vs
+holds (joint-gives model r vs) = eqb (jointJudged model buffers .number) r && same (jointJudged model buffers .values) vs
+holds (joint-is model shown) = same (evidenceBy false (modelOf model)) shown
 
 -- "model 1,1,1,1,0,0,0,0", with its kind
 abbrev pub tiny : ℕ → List ℕ
@@ -195,4 +206,24 @@ openingBench =
     ∷ check-gives (link 1) (1 ∷ 5 ∷ 3 ∷ 1 ∷ 0 ∷ 0 ∷ []) 7 []
     -- the loop plan's trail passes as without the link
     ∷ check-gives linkedLoop loopTrail 0 (2 ∷ [])
+    ∷ []
+
+-- one clock, two locations, the second forbidden: a loop that resets at 2, and an edge that opens at 2
+abbrev pub longer : List ℕ
+longer = 1 ∷ 1 ∷ 2 ∷ 2 ∷ 2 ∷ 0 ∷ 0 ∷ 0 ∷ 1 ∷ 0 ∷ 0 ∷ 0 ∷ 1 ∷ 2 ∷ 2 ∷ 0 ∷ 1 ∷ 0 ∷ 2 ∷ 2 ∷ []
+
+-- two clocks, two locations, a loop of two edges with these reset masks
+abbrev pub pair : ℕ → ℕ → List ℕ
+pair there back = 1 ∷ 2 ∷ 1 ∷ 2 ∷ 2 ∷ 0 ∷ 0 ∷ 0 ∷ 0 ∷ 1 ∷ 0 ∷ 0 ∷ 0 ∷ 1 ∷ there ∷ 0 ∷ 1 ∷ 0 ∷ 1 ∷ 1 ∷ 0 ∷ back ∷ 0 ∷ 1 ∷ 0 ∷ 1 ∷ []
+
+-- 02 (g): "17 when a counted closed walk has no such edge", though its edges reset every clock together; "a trail here has no touch and is the fewest-step one
+-- without it"
+unfoldable pub jointBench : List Case
+jointBench =
+    joint-gives (tiny 0) 0 (0 ∷ 3 ∷ 3 ∷ [])
+    ∷ joint-is (tiny 0) (1 ∷ 5 ∷ 3 ∷ 1 ∷ [])
+    ∷ judge-gives longer 0 (1 ∷ 10 ∷ 4 ∷ [])
+    ∷ joint-gives longer 0 (1 ∷ 10 ∷ 5 ∷ [])
+    ∷ joint-is longer (2 ∷ 5 ∷ 0 ∷ 0 ∷ 0 ∷ 0 ∷ 1 ∷ 1 ∷ [])
+    ∷ joint-gives (pair 1 2) 17 []
     ∷ []

@@ -10,10 +10,12 @@ ghost use Rattle.robust.specs.Fringe.{span};
 ghost use Rattle.model.specs.Model.{Lawful};
 ghost use Rattle.graph.specs.Plan.{systemOfModel};
 ghost use Rattle.graph.specs.States.{Listed, states};
+ghost use Rattle.successors.specs.Flags.{AllowedFlags};
 ghost use Rattle.region_corners.specs.Shapes.{Linked};
 ghost use Rattle.tables.specs.Tables.{Room, Steps};
 ghost use Rattle.call.specs.Scratch.{Scratch};
-ghost use Rattle.survey.specs.Surveyed.{Surveyed, Levelled};
+ghost use Rattle.survey.specs.Surveyed.{Surveyed};
+ghost use Rattle.evidence_writer.specs.Searched.{Searched};
 ghost use Rattle.outlook.specs.Outlook.{ourMargin, outlookFor};
 use limits::MAX_REGIONS;
 use limits::MAX_STATES;
@@ -56,11 +58,11 @@ fn margin_of(
     ranks: &mut [Word],
 ) -> usize
     requires { ⌜ Lawful m × Listed m (now table) × Steps m (now allowed) (now first) (now targets) × Linked (m .clocks) (m .ceiling) (now shapes) ⌝ }
-    requires { ⌜ Surveyed m (now heights) (now distance) × (length (now sheet) ≡ states m) × (length (now ranks) ≡ states m) ⌝ }
+    requires { ⌜ Surveyed true m (now heights) (now distance) × (length (now sheet) ≡ states m) × (length (now ranks) ≡ states m) ⌝ }
     requires { ⌜ unsafe (systemOfModel m) ≡ false ⌝ }
     ensures { λ r. ⌜ r ≡ ourMargin m ⌝ }
 {
-    sheet_writer::fill_sheet(m, heights, distance, sheet);
+    sheet_writer::fill_sheet(m, true, heights, distance, sheet);
     fringe::fill_fringe(m, shapes, sheet, allowed);
     let entries = fringe_ranks::fringe_entries(
         m,
@@ -90,8 +92,10 @@ fn outlook_found(
     queue: &mut [Word],
     path: &mut [Word],
 ) -> Outlook
-    requires { ⌜ Lawful m × Listed m (now table) × Steps m (now allowed) (now first) (now targets) × Linked (m .clocks) (m .ceiling) (now shapes)
-        × Levelled m (now heights) (now distance) (now queue) × (length (now queue) ≡ states m) × (length (now path) ≡ states m) ⌝ }
+    requires { ⌜
+        Searched true m (now table) (now first) (now targets) (now shapes) (now heights) (now distance) (now queue) (now path)
+        × AllowedFlags m (now allowed)
+        ⌝ }
     ensures { λ r. ⌜ r ≡ outlookFor harm m ⌝ }
 {
     let kind = m.kind;
@@ -103,6 +107,7 @@ fn outlook_found(
         }
         let start = from_byte(m.start) * r;
         trail_states::trail_states(
+            true,
             steps,
             start,
             r,
@@ -162,9 +167,8 @@ fn fill_and_look(
     requires { ⌜ Scratch (states m) (now s1) (now s2) (now s3) (now s4) ⌝ }
     ensures { λ r. ⌜ r ≡ outlookFor harm m ⌝ }
 {
-    tables::fill_tables(m, table, allowed, first, targets, shapes);
-    region_corners::link_corners(table.len(), shapes);
-    survey::search(m, first, targets, shapes, s1, s2, s3, s4);
+    tables::fill_search_tables(m, true, table, allowed, first, targets, shapes);
+    survey::search(m, true, first, targets, shapes, s1, s2, s3, s4);
     outlook_found(
         m,
         harm,
@@ -251,7 +255,8 @@ fn look_small(
     )
 }
 
-// What drift does to a model in the end: harm, if that is asked for, or else the margin. What the four slices held before does not matter; they are left with numbers of the search.
+// What drift does to a model in the end: harm, if that is asked for, or else the margin. What the four slices held before does not matter; they are
+// left with numbers of the search.
 pub fn find(
     m: Model,
     harm: bool,

@@ -1,6 +1,7 @@
 //! The calls: judge, marks, evidence, check; of document 02 the shortest form of
-//! a plan, the rounds of the marking and the least time to a location; and beyond
-//! both the margin of our sheet and the harm of our trail.
+//! a plan, the rounds of the marking, the least time to a location, and the judge,
+//! marks and evidence of plans with a joint reset; and beyond both the margin of our
+//! sheet and the harm of our trail.
 //! Scratch is given as the four lengths alone, since this checker uses memory of
 //! its own; they decide only about refusal 8. Output is written on success and
 //! not otherwise.
@@ -10,7 +11,8 @@ use crate::components::Components;
 use crate::graph::Graph;
 use crate::harm::Bound;
 use crate::margin::by_sheet;
-use crate::marking::{distance_to_forbidden, is_unsafe, levels, marked_set, ALL_STEPS};
+use crate::marking::{distance_to_forbidden, is_unsafe, levels, marked_set, reached};
+use crate::marking::{with_touch, Closure, WITHOUT_TOUCH};
 use crate::model::{read_model, read_plan, Model};
 use crate::refusal::*;
 use crate::regions::Regions;
@@ -72,27 +74,54 @@ fn accept(model: &[u8], scratch: Scratch) -> Result<Graph, Refusal> {
     Ok(Graph::new(model))
 }
 
+/// The same, then 17: what is taken has a joint reset.
+fn accept_joint(model: &[u8], scratch: Scratch) -> Result<Graph, Refusal> {
+    let graph = accept(model, scratch)?;
+    if graph.model.lacks_a_joint_reset() {
+        return Err(NO_JOINT_RESET);
+    }
+    Ok(graph)
+}
+
 pub fn judge(model: &[u8], scratch: Scratch) -> Result<Judgement, Refusal> {
     let graph = accept(model, scratch)?;
-    let components = Components::new(&graph);
-    let marked = marked_set(&graph, &components);
-    let is_unsafe = is_unsafe(&graph, &marked);
+    Ok(judged_by(&graph, with_touch(&Components::new(&graph))))
+}
+
+/// The judge of plans with a joint reset: the verdict is the same, and a trail has
+/// the fewest steps without a touch.
+pub fn judge_joint(model: &[u8], scratch: Scratch) -> Result<Judgement, Refusal> {
+    Ok(judged_by(&accept_joint(model, scratch)?, WITHOUT_TOUCH))
+}
+
+fn judged_by(graph: &Graph, closure: Closure) -> Judgement {
+    let marked = reached(graph, closure);
+    let is_unsafe = is_unsafe(graph, &marked);
     let count = if is_unsafe {
-        distance_to_forbidden(&graph, &components, &graph.reversed())[graph.start] as usize
+        distance_to_forbidden(graph, closure, &graph.reversed())[graph.start] as usize
     } else {
         marked.iter().filter(|&&mark| mark).count()
     };
-    Ok(Judgement {
+    Judgement {
         is_unsafe,
         states: graph.states(),
         count,
-    })
+    }
 }
 
 /// Writes a mark of 1 or 0 per state and gives the number of states.
 pub fn marks(model: &[u8], scratch: Scratch, out: &mut [u8]) -> Result<usize, Refusal> {
     let graph = accept(model, scratch)?;
-    let marked = marked_set(&graph, &Components::new(&graph));
+    put_marks(&graph, with_touch(&Components::new(&graph)), out)
+}
+
+/// The same marks, of plans with a joint reset.
+pub fn marks_joint(model: &[u8], scratch: Scratch, out: &mut [u8]) -> Result<usize, Refusal> {
+    put_marks(&accept_joint(model, scratch)?, WITHOUT_TOUCH, out)
+}
+
+fn put_marks(graph: &Graph, closure: Closure, out: &mut [u8]) -> Result<usize, Refusal> {
+    let marked = reached(graph, closure);
     let bytes: Vec<u8> = marked.into_iter().map(u8::from).collect();
     put_first(&bytes, out)
 }
@@ -108,17 +137,27 @@ fn put_first(bytes: &[u8], out: &mut [u8]) -> Result<usize, Refusal> {
 /// The judgement of a model together with its evidence: the number of steps
 /// or marked states comes with the trail or sheet.
 pub fn evidence_of(graph: &Graph) -> (Judgement, Vec<u8>) {
-    let components = Components::new(graph);
-    let marked = marked_set(graph, &components);
+    evidence_by(graph, with_touch(&Components::new(graph)))
+}
+
+/// The same of a model with a joint reset, whose trail has no touch.
+pub fn joint_evidence_of(graph: &Graph) -> (Judgement, Vec<u8>) {
+    evidence_by(graph, WITHOUT_TOUCH)
+}
+
+fn evidence_by(graph: &Graph, closure: Closure) -> (Judgement, Vec<u8>) {
+    let marked = reached(graph, closure);
     let is_unsafe = is_unsafe(graph, &marked);
     let (count, bytes) = if is_unsafe {
-        let trail = trail_of(graph, &components);
+        let trail = trail_by(graph, closure);
         (trail.len(), spell_trail(graph, &trail))
     } else {
-        (
-            marked.iter().filter(|&&mark| mark).count(),
-            our_sheet(graph, &components, &marked),
-        )
+        // Heights come from the closed walks, whether touches needed them or not.
+        let sheet = match closure.touch {
+            Some(components) => our_sheet(graph, components, &marked),
+            None => our_sheet(graph, &Components::new(graph), &marked),
+        };
+        (marked.iter().filter(|&&mark| mark).count(), sheet)
     };
     (
         Judgement {
@@ -130,11 +169,11 @@ pub fn evidence_of(graph: &Graph) -> (Judgement, Vec<u8>) {
     )
 }
 
-/// Our trail of an unsafe model.
-fn trail_of(graph: &Graph, components: &Components) -> Vec<TrailStep> {
+/// Our trail of an unsafe model, of the chosen steps.
+fn trail_by(graph: &Graph, closure: Closure) -> Vec<TrailStep> {
     let reversed = graph.reversed();
-    let distance = distance_to_forbidden(graph, components, &reversed);
-    our_trail(graph, components, &reversed, &distance)
+    let distance = distance_to_forbidden(graph, closure, &reversed);
+    our_trail(graph, closure, &reversed, &distance)
 }
 
 /// Writes our sheet or trail; gives the verdict (true for unsafe) and the
@@ -154,10 +193,29 @@ pub fn judge_and_write(
     scratch: Scratch,
     out: &mut [u8],
 ) -> Result<(Judgement, usize), Refusal> {
-    let graph = accept(model, scratch)?;
-    let (judgement, bytes) = evidence_of(&graph);
-    let written = put_first(&bytes, out)?;
-    Ok((judgement, written))
+    let (judgement, bytes) = evidence_of(&accept(model, scratch)?);
+    Ok((judgement, put_first(&bytes, out)?))
+}
+
+/// Like `write_evidence`, of plans with a joint reset: the same sheet, or our trail
+/// without a touch.
+pub fn write_joint(
+    model: &[u8],
+    scratch: Scratch,
+    out: &mut [u8],
+) -> Result<(bool, usize), Refusal> {
+    let (judgement, written) = judge_and_write_joint(model, scratch, out)?;
+    Ok((judgement.is_unsafe, written))
+}
+
+/// Like `write_joint`, with the whole judgement.
+pub fn judge_and_write_joint(
+    model: &[u8],
+    scratch: Scratch,
+    out: &mut [u8],
+) -> Result<(Judgement, usize), Refusal> {
+    let (judgement, bytes) = joint_evidence_of(&accept_joint(model, scratch)?);
+    Ok((judgement, put_first(&bytes, out)?))
 }
 
 /// Checks evidence: 1 for a passing sheet, 2 for a passing trail.
@@ -175,7 +233,7 @@ pub fn write_plan(model: &[u8], out: &mut [u8]) -> Result<usize, Refusal> {
 /// is too short.
 pub fn rounds(model: &[u8]) -> Result<Rounds, Refusal> {
     let graph = Graph::new(read_model(model)?);
-    let levels = levels(&graph, &Components::new(&graph), ALL_STEPS);
+    let levels = levels(&graph, with_touch(&Components::new(&graph)));
     Ok(Rounds {
         rounds: levels.len(),
         marked: levels.iter().map(Vec::len).sum(),
@@ -214,6 +272,7 @@ pub fn harm(model: &[u8], scratch: Scratch) -> Result<Harm, Refusal> {
     if !is_unsafe(&graph, &marked) {
         return Ok(Harm::Safe { states });
     }
-    let bound = Bound::of_trail(&graph, &trail_of(&graph, &components));
+    let trail = trail_by(&graph, with_touch(&components));
+    let bound = Bound::of_trail(&graph, &trail);
     Ok(Harm::Within { states, bound })
 }

@@ -38,14 +38,18 @@ const LONGEST: usize = 3;
 const ROOM: usize = 2 * LONGEST + 2;
 
 /// Whether a closed walk of any edges leaves a clock unreset: the test that
-/// document 01 makes without request (f). With limits at the ceiling each edge
-/// can open.
+/// document 01 makes without request (f).
 pub fn is_refused_by_all_edges(model: &Model) -> bool {
+    with_every_edge_open(model).leaves_a_clock_unreset()
+}
+
+/// The model with limits at the ceiling, where each edge can open.
+pub fn with_every_edge_open(model: &Model) -> Model {
     let mut open = model.clone();
     for location in &mut open.locations {
         location.limit[..open.clocks].fill(open.ceiling);
     }
-    open.leaves_a_clock_unreset()
+    open
 }
 
 /// Whether some edge cannot open.
@@ -152,7 +156,7 @@ impl Draft {
     }
 
     /// An edge whose lows are within the limits of both locations.
-    fn push_link(&mut self, random: &mut Random, from: usize, to: usize, mask: u32) {
+    pub fn push_link(&mut self, random: &mut Random, from: usize, to: usize, mask: u32) {
         let mut link = self.open_edge(from, to, mask);
         let limits = self.model().locations;
         for (clock, (low, high)) in link.guard.iter_mut().enumerate() {
@@ -163,6 +167,12 @@ impl Draft {
             }
         }
         self.edges.push(link);
+    }
+
+    /// Makes a link of a walk of two or more one that cannot open.
+    pub fn shut(&mut self, random: &mut Random, link: usize) {
+        let test = *random.pick(&DEAD);
+        self.put_to_test(random, link, test);
     }
 
     /// Draws the clock of a test, narrows a limit for it, and sets the low.

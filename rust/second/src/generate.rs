@@ -6,7 +6,8 @@
 //! (safe, unsafe only by drift, unsafe with perfect clocks), judged by the
 //! limits that its mark gives, is found by drawing until the class fits, with a
 //! sure drawing at the end. To some of these, links are added that nobody can
-//! walk. Models in which time matters most are drawn in a way of their own,
+//! walk; in some, resets are changed until each closed walk has a joint one, or just
+//! does not. Models in which time matters most are drawn in a way of their own,
 //! whatever their class.
 
 use crate::blanks::{blank_model, early_draft, is_safe_by_its_mark};
@@ -15,6 +16,7 @@ use crate::components::Components;
 use crate::dead_links::{dead_links_model, has_dead_edge, is_refused_by_all_edges};
 use crate::draft::{loop_draft, padded, pick_shape, random_draft, random_mark, Draft, Shape};
 use crate::graph::Graph;
+use crate::joint_resets::{disjoint_model, has_another_trail, joint_model, lacks_by_all_edges};
 use crate::limits::{MAX_CEILING, MAX_CLOCKS, MAX_EDGES, MAX_LOCATIONS, MAX_STATES};
 use crate::marking::{is_unsafe, reached, Closure};
 use crate::model::{read_model, read_plan, Field, Model, Reading, EDGES_MARK};
@@ -27,7 +29,7 @@ use std::collections::BTreeMap;
 use std::convert::Infallible;
 
 /// The kinds that `generate` knows.
-pub const KINDS: [&str; 24] = [
+pub const KINDS: [&str; 26] = [
     "safe",
     "drift",
     "plain",
@@ -52,6 +54,8 @@ pub const KINDS: [&str; 24] = [
     "noise",
     "slow",
     "dead-links",
+    "joint",
+    "disjoint",
 ];
 
 /// What an accepted model is.
@@ -69,17 +73,12 @@ pub enum Class {
 pub fn classify(model: &Model) -> Class {
     let graph = Graph::new(model.clone());
     let components = Components::new(&graph);
-    let unsafe_by = |face, touch| {
-        is_unsafe(
-            &graph,
-            &reached(&graph, &components, Closure { face, touch }),
-        )
-    };
-    if !unsafe_by(true, true) {
+    let unsafe_by = |face, touch| is_unsafe(&graph, &reached(&graph, Closure { face, touch }));
+    if !unsafe_by(true, Some(&components)) {
         Class::Safe
-    } else if unsafe_by(false, false) {
+    } else if unsafe_by(false, None) {
         Class::Plain
-    } else if unsafe_by(true, false) {
+    } else if unsafe_by(true, None) {
         Class::Face
     } else {
         Class::Drift
@@ -124,6 +123,8 @@ pub fn generate(seed: u64, kind: &str) -> Option<Vec<u8>> {
         "noise" => noise(random),
         "slow" => slow_model(random)?.bytes(),
         "dead-links" => dead_links_model(random).bytes(),
+        "joint" => joint_model(random).bytes(),
+        "disjoint" => disjoint_model(random).bytes(),
         _ => return None,
     })
 }
@@ -398,6 +399,12 @@ enum Trait {
     /// Some edge cannot open; such an edge alone keeps 7 away.
     DeadEdge,
     ByDeadEdges,
+    /// Each closed walk that counts has a joint reset; there is such a walk; a dead
+    /// edge alone keeps 17 away; our trail without a touch is not the full one.
+    Joint,
+    JointWalk,
+    JointByDeadEdges,
+    JointTrail,
     Clocks(usize),
     /// Up to so many states.
     States(usize),
@@ -423,7 +430,21 @@ impl Trait {
         if is_refused_by_all_edges(&reading.model) {
             all.push(Trait::ByDeadEdges);
         }
+        if !reading.model.lacks_a_joint_reset() {
+            all.extend(Trait::all_of_joint(&reading.model));
+        }
         all
+    }
+
+    fn all_of_joint(model: &Model) -> Vec<Trait> {
+        let all = [
+            (Trait::Joint, true),
+            (Trait::JointWalk, model.has_closed_walk(|_| true)),
+            (Trait::JointByDeadEdges, lacks_by_all_edges(model)),
+            (Trait::JointTrail, has_another_trail(model)),
+        ];
+        let found = all.into_iter().filter(|(_, is_found)| *is_found);
+        found.map(|(found, _)| found).collect()
     }
 
     fn words(self) -> String {
@@ -433,6 +454,12 @@ impl Trait {
             Trait::SafeByItsMark => "mark 2, safe where mark 1 is unsafe".to_string(),
             Trait::DeadEdge => "with an edge that cannot open".to_string(),
             Trait::ByDeadEdges => "refused 7 if every edge could open".to_string(),
+            Trait::Joint => "with a joint reset".to_string(),
+            Trait::JointWalk => "with a joint reset and a closed walk".to_string(),
+            Trait::JointByDeadEdges => {
+                "with a joint reset, 17 if every edge could open".to_string()
+            }
+            Trait::JointTrail => "with a joint reset, another trail without a touch".to_string(),
             Trait::Clocks(clocks) => format!("clocks {clocks}"),
             Trait::States(size) => format!("states up to {size}"),
         }
@@ -469,6 +496,9 @@ pub fn shares(count: usize) -> String {
     }
     let too_large = traits.get(&Trait::States(MAX_STATES));
     lines += &share_line(&format!("refused 8 at scratch {MIDDLE}"), too_large, count);
+    let disjoint = accepted - traits.get(&Trait::Joint).unwrap_or(&0);
+    let words = format!("refused {NO_JOINT_RESET} where a joint reset is asked for");
+    lines += &share_line(&words, Some(&disjoint), count);
     lines += &share_line("accepted", Some(&accepted), count);
     for (found, number) in &traits {
         let words = format!("accepted {}", found.words());

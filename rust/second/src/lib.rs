@@ -8,12 +8,13 @@
 //! stay field means in mark 2, is in `model` and `shortest_plan`; request (d),
 //! the rounds of the marking, is in `marking`; request (e), the least time to a
 //! location, is `soonest`; request (f), that closed walks count only if their
-//! edges can open, is in `model`. Beyond both documents, `margin` and `harm` tell
-//! how slight a drift is harmless and how soon another does harm.
+//! edges can open, is in `model`; request (g), plans with a joint reset, is in
+//! `model`, `marking`, `trail` and `calls`. Beyond both documents, `margin` and
+//! `harm` tell how slight a drift is harmless and how soon another does harm.
 //! `brute` does everything again by naive definitions, `widened` searches runs
-//! without regions; `generate`, `blanks`, `dead_links`, `mutate`, `padding` and
-//! `other` make inputs for comparisons, `cases` those of a proved program with
-//! their answers.
+//! without regions; `generate`, `blanks`, `dead_links`, `joint_resets`, `mutate`,
+//! `padding` and `other` make inputs for comparisons, `cases` those of a proved
+//! program with their answers.
 
 // Loops over clocks and states index several lists at once.
 #![allow(clippy::needless_range_loop)]
@@ -30,6 +31,7 @@ pub mod draft;
 pub mod generate;
 pub mod graph;
 pub mod harm;
+pub mod joint_resets;
 pub mod limits;
 pub mod margin;
 pub mod marking;
@@ -51,6 +53,7 @@ pub mod widened;
 
 pub use calls::{check_evidence, judge, marks, write_evidence, write_plan, Judgement};
 pub use calls::{harm, sheet_margin, Harm, SheetMargin};
+pub use calls::{judge_joint, marks_joint, write_joint};
 pub use calls::{rounds, soonest, Rounds};
 pub use model::{read_model, read_plan, Edge, Location, Model, Reading};
 pub use numbers::{number_at, spelled_at, Spelled};

@@ -8,6 +8,7 @@ use second::generate::{generate, shares, KINDS};
 use second::mutate;
 use second::program::{bytes_of_text, evidence_bytes, marks_bytes, shortest_bytes};
 use second::program::{harm_lines, judge_lines, margin_lines};
+use second::program::{joint_evidence_bytes, joint_judge_lines, joint_marks_bytes};
 use second::program::{refusal_line, soonest_line, OUTPUT, SCRATCH};
 use std::io::{Read, Write};
 use std::process::ExitCode;
@@ -19,6 +20,9 @@ fn usage() -> String {
 second judge FILE|- [SCRATCH]            three lines, or the refusal line
 second evidence FILE|- [SCRATCH]         evidence bytes, or the refusal line
 second marks FILE|- [SCRATCH]            one byte per state, 1 or 0, or the refusal line
+second judge-joint FILE|- [SCRATCH]      the same of a plan with a joint reset
+second evidence-joint FILE|- [SCRATCH]
+second marks-joint FILE|- [SCRATCH]
 second margin FILE|- [SCRATCH]           three lines with our sheet's margin, or the refusal line
 second harm FILE|- [SCRATCH]             three lines with our trail's harm, or the refusal line
 second soonest FILE|- LOCATION [SCRATCH] the least time to a location, or the refusal line
@@ -60,6 +64,7 @@ fn run(mut arguments: Vec<String>) -> Result<Vec<u8>, String> {
     // A last argument may give the scratch length too.
     let files = match words.first() {
         Some(&("judge" | "evidence" | "marks" | "margin" | "harm" | "answers")) => 1,
+        Some(&("judge-joint" | "evidence-joint" | "marks-joint")) => 1,
         Some(&("check" | "soonest")) => 2,
         _ => usize::MAX,
     };
@@ -70,6 +75,9 @@ fn run(mut arguments: Vec<String>) -> Result<Vec<u8>, String> {
         ["judge", file] => Ok(judge_lines(&read(file)?, scratch, output).into_bytes()),
         ["evidence", file] => Ok(evidence_bytes(&read(file)?, scratch, output)),
         ["marks", file] => Ok(marks_bytes(&read(file)?, scratch, output)),
+        ["judge-joint", file] => Ok(joint_judge_lines(&read(file)?, scratch, output).into_bytes()),
+        ["evidence-joint", file] => Ok(joint_evidence_bytes(&read(file)?, scratch, output)),
+        ["marks-joint", file] => Ok(joint_marks_bytes(&read(file)?, scratch, output)),
         ["margin", file] => Ok(margin_lines(&read(file)?, scratch).into_bytes()),
         ["harm", file] => Ok(harm_lines(&read(file)?, scratch).into_bytes()),
         ["soonest", file, location] => {

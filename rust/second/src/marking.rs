@@ -10,36 +10,45 @@ use crate::regions::{point_number, POINTS};
 
 pub const UNREACHED: u32 = u32::MAX;
 
-/// Which steps to close under, besides time and jump.
-#[derive(Clone, Copy, Debug, PartialEq, Eq)]
-pub struct Closure {
+/// Which steps to take, besides time and jump. A touch leads to a state on a closed
+/// walk, so that touches need those to be known, and nothing else does.
+#[derive(Clone, Copy)]
+pub struct Closure<'a> {
     pub face: bool,
-    pub touch: bool,
+    pub touch: Option<&'a Components>,
 }
 
 /// The steps of the marked set.
-pub const ALL_STEPS: Closure = Closure {
+pub fn with_touch(components: &Components) -> Closure<'_> {
+    Closure {
+        face: true,
+        touch: Some(components),
+    }
+}
+
+/// The steps of plans with a joint reset (request (g) of document 02): each closed
+/// walk of steps passes a state whose clocks are all 0, so that what is touched is
+/// marked without it.
+pub const WITHOUT_TOUCH: Closure = Closure {
     face: true,
-    touch: true,
+    touch: None,
 };
 
 /// A marking under way.
 struct Marking<'a> {
     graph: &'a Graph,
-    components: &'a Components,
-    closure: Closure,
+    closure: Closure<'a>,
     marked: Vec<bool>,
     noted: CornerNotes,
 }
 
 impl<'a> Marking<'a> {
     /// The start is marked and no other state.
-    fn new(graph: &'a Graph, components: &'a Components, closure: Closure) -> Marking<'a> {
+    fn new(graph: &'a Graph, closure: Closure<'a>) -> Marking<'a> {
         let mut marked = vec![false; graph.states()];
         marked[graph.start] = true;
         Marking {
             graph,
-            components,
             closure,
             marked,
             noted: CornerNotes::new(graph),
@@ -49,7 +58,7 @@ impl<'a> Marking<'a> {
     /// Marks every unmarked state that is one step from this one, and adds it
     /// to a list.
     fn go_over(&mut self, state: usize, newly: &mut Vec<usize>) {
-        let (graph, components) = (self.graph, self.components);
+        let graph = self.graph;
         let marked = &mut self.marked;
         let mut mark = |next: usize| {
             if graph.allowed[next] && !marked[next] {
@@ -66,7 +75,7 @@ impl<'a> Marking<'a> {
                 mark(base + face);
             }
         }
-        if self.closure.touch {
+        if let Some(components) = self.closure.touch {
             self.noted.for_new_corners(graph, state, |near| {
                 if components.on_cycle[near] {
                     mark(near);
@@ -77,8 +86,8 @@ impl<'a> Marking<'a> {
 }
 
 /// The smallest set with the start that is closed under the chosen steps.
-pub fn reached(graph: &Graph, components: &Components, closure: Closure) -> Vec<bool> {
-    let mut marking = Marking::new(graph, components, closure);
+pub fn reached(graph: &Graph, closure: Closure) -> Vec<bool> {
+    let mut marking = Marking::new(graph, closure);
     let mut waiting = vec![graph.start];
     while let Some(state) = waiting.pop() {
         marking.go_over(state, &mut waiting);
@@ -89,8 +98,8 @@ pub fn reached(graph: &Graph, components: &Components, closure: Closure) -> Vec<
 /// The same set by the rounds of request (d) of document 02: each level is what
 /// one round goes over, and the next level what it marks. The round over the
 /// last level marks nothing.
-pub fn levels(graph: &Graph, components: &Components, closure: Closure) -> Vec<Vec<usize>> {
-    let mut marking = Marking::new(graph, components, closure);
+pub fn levels(graph: &Graph, closure: Closure) -> Vec<Vec<usize>> {
+    let mut marking = Marking::new(graph, closure);
     let mut levels = Vec::new();
     let mut level = vec![graph.start];
     while !level.is_empty() {
@@ -106,7 +115,7 @@ pub fn levels(graph: &Graph, components: &Components, closure: Closure) -> Vec<V
 
 /// The marked set of document 01.
 pub fn marked_set(graph: &Graph, components: &Components) -> Vec<bool> {
-    reached(graph, components, ALL_STEPS)
+    reached(graph, with_touch(components))
 }
 
 /// Whether a forbidden location is among the marked states.
@@ -114,13 +123,9 @@ pub fn is_unsafe(graph: &Graph, marked: &[bool]) -> bool {
     (0..graph.states()).any(|state| marked[state] && graph.is_forbidden(state))
 }
 
-/// For each allowed state the fewest steps of all four kinds to a forbidden
-/// location, by a breadth-first search backward.
-pub fn distance_to_forbidden(
-    graph: &Graph,
-    components: &Components,
-    reversed: &Reversed,
-) -> Vec<u32> {
+/// For each allowed state the fewest of the chosen steps to a forbidden location, by
+/// a breadth-first search backward.
+pub fn distance_to_forbidden(graph: &Graph, closure: Closure, reversed: &Reversed) -> Vec<u32> {
     let regions = graph.regions;
     let mut distance = vec![UNREACHED; graph.states()];
     let mut noted = CornerNotes::new(graph);
@@ -136,13 +141,15 @@ pub fn distance_to_forbidden(
         let state = queue[at];
         at += 1;
         found.extend(reversed.sources(state).iter().map(|&from| from as usize));
-        let base = graph.base_of(state);
-        found.extend(
-            regions.cofaces[graph.region_of(state)]
-                .iter()
-                .map(|coface| base + coface),
-        );
-        if components.on_cycle[state] {
+        if closure.face {
+            let base = graph.base_of(state);
+            let cofaces = regions.cofaces[graph.region_of(state)].iter();
+            found.extend(cofaces.map(|coface| base + coface));
+        }
+        if closure
+            .touch
+            .is_some_and(|components| components.on_cycle[state])
+        {
             // Every state with one of these corners can touch this one.
             noted.for_new_corners(graph, state, |near| found.push(near));
         }

@@ -1,7 +1,8 @@
 //! Models: reading the bytes (refusals 1 to 6), the limits that blank stay
 //! fields mean (mark 2 is request (c) of document 02), and the test that each
 //! closed walk of edges that can open resets each clock (refusal 7; which edges
-//! can is request (f)).
+//! can is request (f)) or has one that resets every clock (refusal 17, request
+//! (g), which some calls alone give).
 
 use crate::limits::{MAX_CEILING, MAX_CLOCKS, MAX_EDGES, MAX_LOCATIONS};
 use crate::numbers::Reader;
@@ -210,14 +211,23 @@ impl Model {
     /// Whether some closed walk of edges that can each open alone leaves some
     /// clock unreset. Whether a run can take the walk as a whole plays no part.
     pub fn leaves_a_clock_unreset(&self) -> bool {
-        (0..self.clocks).any(|clock| {
-            let keeping: Vec<&Edge> = self
-                .edges
-                .iter()
-                .filter(|edge| edge.keeps(clock) && self.can_open(edge))
-                .collect();
-            has_cycle(self.locations.len(), &keeping)
-        })
+        (0..self.clocks).any(|clock| self.has_closed_walk(|edge| edge.keeps(clock)))
+    }
+
+    /// Whether some closed walk of such edges has none that resets every clock:
+    /// it is one of edges that each keep some clock.
+    pub fn lacks_a_joint_reset(&self) -> bool {
+        let keeps_any = |edge: &Edge| (0..self.clocks).any(|clock| edge.keeps(clock));
+        self.has_closed_walk(keeps_any)
+    }
+
+    /// Whether some closed walk is made of these edges, as far as they can open.
+    pub fn has_closed_walk(&self, of: impl Fn(&Edge) -> bool) -> bool {
+        let edges = self.edges.iter();
+        let counted: Vec<&Edge> = edges
+            .filter(|edge| of(edge) && self.can_open(edge))
+            .collect();
+        has_cycle(self.locations.len(), &counted)
     }
 
     /// Whether some clock values let a run take this edge, looked at alone.
@@ -368,5 +378,25 @@ mod tests {
         let leave = |resets| there_and_back([[2, 0], [0, 0]], resets, [2, 0]);
         assert!(leave(1).is_ok());
         assert!(leave(2).is_ok());
+    }
+
+    #[test]
+    fn joint_resets() {
+        // Two clocks, ceiling 1: there, once more with a low of this, and back. The
+        // first clock is at 0 where they leave.
+        let lacks = |masks: [u8; 3], low: u8| {
+            let [there, again, back] = masks;
+            let bytes = [
+                &[1, 2, 1, 2, 3, 0, 0, 1, 0, 0, 0, 0][..],
+                &[0, 1, there, 0, 1, 0, 1],
+                &[0, 1, again, low, 1, 0, 1],
+                &[1, 0, back, 0, 1, 0, 1],
+            ];
+            read_model(&bytes.concat()).unwrap().lacks_a_joint_reset()
+        };
+        assert!(lacks([1, 3, 2], 0) && lacks([3, 1, 2], 0) && lacks([1, 3, 2], 1));
+        assert!(!lacks([3, 3, 0], 0) && !lacks([0, 0, 3], 0));
+        // Where the second cannot open it brings about nothing.
+        assert!(!lacks([3, 1, 2], 1) && !lacks([3, 0, 0], 1));
     }
 }

@@ -4,7 +4,7 @@
 use crate::components::Components;
 use crate::graph::{Graph, FACE, JUMP, TIME, TOUCH};
 use crate::limits::MAX_EDGES;
-use crate::marking::{reached, Closure};
+use crate::marking::{reached, WITHOUT_TOUCH};
 use crate::model::read_model;
 use crate::numbers::{numbers_of, shortest, LARGEST};
 use crate::padding::{count, pad_many, pad_one, pad_somehow, start_of};
@@ -261,16 +261,11 @@ fn change_sheet(
 /// For an unsafe model: the sheet that stops before the first touch and
 /// keeps one height all along each loop, as if no loop could be touched.
 fn hidden_loop(graph: &Graph) -> Vec<u8> {
-    let components = Components::new(graph);
-    let marked = reached(
+    our_sheet(
         graph,
-        &components,
-        Closure {
-            face: true,
-            touch: false,
-        },
-    );
-    our_sheet(graph, &components, &marked)
+        &Components::new(graph),
+        &reached(graph, WITHOUT_TOUCH),
+    )
 }
 
 /// What a number of evidence stands for.

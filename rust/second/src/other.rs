@@ -5,7 +5,7 @@
 
 use crate::components::Components;
 use crate::graph::{Graph, Step, FACE, JUMP, TIME, TOUCH};
-use crate::marking::{distance_to_forbidden, is_unsafe, CornerNotes, UNREACHED};
+use crate::marking::{distance_to_forbidden, is_unsafe, with_touch, CornerNotes, UNREACHED};
 use crate::numbers::shortest;
 use crate::random::Random;
 use crate::sheet::SHEET;
@@ -111,7 +111,7 @@ fn rise(random: &mut Random, highest: usize, most: usize) -> Vec<u32> {
 
 /// A trail that passes; none for a safe model.
 pub fn other_trail(random: &mut Random, graph: &Graph, components: &Components) -> Option<Vec<u8>> {
-    let distance = distance_to_forbidden(graph, components, &graph.reversed());
+    let distance = distance_to_forbidden(graph, with_touch(components), &graph.reversed());
     if distance[graph.start] == UNREACHED {
         return None;
     }

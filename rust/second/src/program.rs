@@ -1,7 +1,9 @@
-//! The two programs of document 01, what the command tells of drift and of the
-//! least time or writes besides, and the text form of byte files.
+//! The two programs of document 01, the same of plans with a joint reset, what the
+//! command tells of drift and of the least time or writes besides, and the text form
+//! of byte files.
 
 use crate::calls::{harm, judge_and_write, marks, sheet_margin, soonest};
+use crate::calls::{judge_and_write_joint, marks_joint, write_joint};
 use crate::calls::{write_evidence, write_plan, Harm, Judgement, SheetMargin};
 use crate::refusal::Refusal;
 
@@ -12,19 +14,30 @@ pub const OUTPUT: usize = 65_536;
 /// The three lines, or the refusal line. The output is lent for the evidence
 /// here too, so evidence that is longer gives 9.
 pub fn judge_lines(model: &[u8], scratch: usize, output: usize) -> String {
-    match judge_and_write(model, [scratch; 4], &mut vec![0; output]) {
-        Ok((judgement, _)) => three_lines(&judgement),
-        Err(refusal) => refusal_line(refusal),
-    }
+    three_lines(judge_and_write(model, [scratch; 4], &mut vec![0; output]))
 }
 
-fn three_lines(judgement: &Judgement) -> String {
-    let counted = if judgement.is_unsafe { "steps" } else { "in" };
-    lines(
-        judgement.is_unsafe,
-        judgement.states,
-        &format!("{counted} {}", judgement.count),
-    )
+/// Alike, of a plan with a joint reset.
+pub fn joint_judge_lines(model: &[u8], scratch: usize, output: usize) -> String {
+    three_lines(judge_and_write_joint(
+        model,
+        [scratch; 4],
+        &mut vec![0; output],
+    ))
+}
+
+fn three_lines(found: Result<(Judgement, usize), Refusal>) -> String {
+    match found {
+        Ok((judgement, _)) => {
+            let counted = if judgement.is_unsafe { "steps" } else { "in" };
+            lines(
+                judgement.is_unsafe,
+                judgement.states,
+                &format!("{counted} {}", judgement.count),
+            )
+        }
+        Err(refusal) => refusal_line(refusal),
+    }
 }
 
 fn lines(is_unsafe: bool, states: usize, third: &str) -> String {
@@ -76,9 +89,22 @@ pub fn evidence_bytes(model: &[u8], scratch: usize, output: usize) -> Vec<u8> {
     })
 }
 
+/// Alike, of a plan with a joint reset.
+pub fn joint_evidence_bytes(model: &[u8], scratch: usize, output: usize) -> Vec<u8> {
+    written(output, |out| {
+        let (_, bytes) = write_joint(model, [scratch; 4], out)?;
+        Ok(bytes)
+    })
+}
+
 /// A byte for each state, 1 or 0, or the refusal line.
 pub fn marks_bytes(model: &[u8], scratch: usize, output: usize) -> Vec<u8> {
     written(output, |out| marks(model, [scratch; 4], out))
+}
+
+/// Alike, of a plan with a joint reset.
+pub fn joint_marks_bytes(model: &[u8], scratch: usize, output: usize) -> Vec<u8> {
+    written(output, |out| marks_joint(model, [scratch; 4], out))
 }
 
 /// The shortest form of a model, or the refusal line.

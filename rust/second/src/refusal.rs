@@ -1,5 +1,5 @@
 //! The refusals of document 01, by the number that a call returns, and of
-//! document 02: 15 of request (b) and 16 of request (e).
+//! document 02: 15 of request (b), 16 of request (e) and 17 of request (g).
 
 pub type Refusal = u8;
 
@@ -36,6 +36,8 @@ pub const ENDS_ORDINARY: Refusal = 14;
 pub const PADDED: Refusal = 15;
 /// There is no such location, or no run gets there.
 pub const NEVER_THERE: Refusal = 16;
+/// A closed walk of edges that can open has none that resets every clock.
+pub const NO_JOINT_RESET: Refusal = 17;
 
 /// They are numbered from 1 to this.
-pub const LAST: Refusal = NEVER_THERE;
+pub const LAST: Refusal = NO_JOINT_RESET;

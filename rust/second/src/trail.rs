@@ -3,7 +3,7 @@
 
 use crate::components::Components;
 use crate::graph::{Graph, Reversed, Step, FACE, JUMP, TIME, TOUCH};
-use crate::marking::UNREACHED;
+use crate::marking::{Closure, UNREACHED};
 use crate::numbers::push_number;
 
 /// The number with which a trail begins.
@@ -21,46 +21,30 @@ pub enum TrailStep {
     Touch(usize, Vec<TrailStep>),
 }
 
-/// The trail we write for an unsafe model: fewest steps, then least in state
-/// numbers, then in kinds, then in edges.
+/// The trail we write for an unsafe model, of the chosen steps: fewest of them, then
+/// least in state numbers, then in kinds, then in edges. The distances are those by
+/// the same steps.
 ///
 /// With the distances known, choosing the least next state that is one step
 /// nearer gives the least list of states; the kinds and edges between given
 /// states are independent of each other, so each can be the least of its own.
 pub fn our_trail(
     graph: &Graph,
-    components: &Components,
+    closure: Closure,
     reversed: &Reversed,
     distance: &[u32],
 ) -> Vec<TrailStep> {
-    let regions = graph.regions;
-    let mut walks = Walks::new(graph, components, reversed);
+    let walks = |components| Walks::new(graph, components, reversed);
+    let mut walks = closure.touch.map(walks);
     let mut trail = Vec::new();
     let mut state = graph.start;
     assert_ne!(distance[state], UNREACHED);
     while distance[state] > 0 {
-        let base = graph.base_of(state);
-        let region = graph.region_of(state);
-        let faces = regions.faces[region].iter().map(|face| Step {
-            to: (base + face) as u32,
-            kind: FACE,
-            edge: 0,
-        });
-        let touches = regions
-            .near(region)
-            .into_iter()
-            .filter(|near| components.on_cycle[base + near])
-            .map(|near| Step {
-                to: (base + near) as u32,
-                kind: TOUCH,
-                edge: 0,
-            });
         let step = graph
             .steps(state)
             .iter()
             .copied()
-            .chain(faces)
-            .chain(touches)
+            .chain(steps_within(graph, closure, state))
             .filter(|step| {
                 graph.allowed[step.to as usize] && distance[step.to as usize] == distance[state] - 1
             })
@@ -69,11 +53,36 @@ pub fn our_trail(
         state = step.to as usize;
         trail.push(match step.kind {
             FACE => TrailStep::Face(graph.region_of(state)),
-            TOUCH => TrailStep::Touch(graph.region_of(state), walks.least_closed_walk(state)),
+            TOUCH => {
+                let walks = walks.as_mut().expect("closed walks are known");
+                TrailStep::Touch(graph.region_of(state), walks.least_closed_walk(state))
+            }
             _ => walk_step(&step),
         });
     }
     trail
+}
+
+/// The face and touch steps from a state, as far as they are chosen. Not all of the
+/// states that they lead to need be allowed.
+fn steps_within(graph: &Graph, closure: Closure, state: usize) -> Vec<Step> {
+    let (base, region) = (graph.base_of(state), graph.region_of(state));
+    let step = |kind: u8, region: usize| Step {
+        to: (base + region) as u32,
+        kind,
+        edge: 0,
+    };
+    let mut steps = Vec::new();
+    if closure.face {
+        let faces = graph.regions.faces[region].iter();
+        steps.extend(faces.map(|&face| step(FACE, face)));
+    }
+    if let Some(components) = closure.touch {
+        let mut near = graph.regions.near(region);
+        near.retain(|near| components.on_cycle[base + near]);
+        steps.extend(near.into_iter().map(|near| step(TOUCH, near)));
+    }
+    steps
 }
 
 fn walk_step(step: &Step) -> TrailStep {

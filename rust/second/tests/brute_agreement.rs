@@ -126,6 +126,21 @@ fn models_with_dead_links() {
     assert!(accepted >= 1_800 && refused >= 400);
 }
 
+/// Closed walks that begin all clocks anew, and such that do not quite; all calls but
+/// those that ask for it.
+#[test]
+fn models_with_joint_resets() {
+    for kind in ["joint", "disjoint"] {
+        let few = |model: &Vec<u8>| judge(model, [SMALL; 4]).is_ok();
+        let models = (0..500).map(|seed| generate(seed, kind).unwrap());
+        let models: Vec<Vec<u8>> = models.filter(few).collect();
+        assert!(models.len() >= 350, "{kind}");
+        for (seed, model) in models.iter().enumerate() {
+            compare(model, seed as u64, 8);
+        }
+    }
+}
+
 /// The same plans with the other mark: its states, sets and evidence too.
 #[test]
 fn models_with_the_other_mark() {

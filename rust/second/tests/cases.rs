@@ -7,21 +7,21 @@ use common::{LOOP, LOOP_TRAIL};
 use second::blanks::with_mark;
 use second::brute::read::read;
 use second::brute::{spellings, Brute};
-use second::calls::states_of;
+use second::calls::{evidence_of, joint_evidence_of, states_of};
 use second::cases::rules::{broken_rules, Rule, RULES};
 use second::cases::{answers, cases};
 use second::components::Components;
 use second::dead_links::is_refused_by_all_edges;
-use second::graph::Graph;
+use second::graph::{Graph, FACE};
 use second::limits::{MAX_CLOCKS, MAX_EDGES};
-use second::marking::{levels, Closure, ALL_STEPS};
+use second::marking::{levels, with_touch, Closure};
 use second::mutate::{roles, Role};
 use second::numbers::{numbers_of, shortest, Reader};
 use second::padding::{first_padded, pad_at};
 use second::program::{bytes_of_text, SCRATCH};
 use second::refusal::LAST;
 use second::{read_model, read_plan};
-use std::collections::BTreeSet;
+use std::collections::{BTreeMap, BTreeSet};
 
 /// A plan, the line of a case of it, and the answer.
 type Case = (Vec<u8>, String, String);
@@ -75,7 +75,7 @@ fn every_answer_comes_up() {
     let pieces: Vec<_> = plans.iter().flat_map(|(_, pieces)| pieces).collect();
     assert!(pieces.len() >= 60);
     let seen: BTreeSet<&str> = pieces.iter().map(|(_, answer)| answer.as_str()).collect();
-    let wanted = (1..=LAST).filter(|refusal| ![9, 16].contains(refusal));
+    let wanted = (1..=LAST).filter(|refusal| ![9, 16, 17].contains(refusal));
     let mut wanted: BTreeSet<String> = wanted.map(|refusal| refusal.to_string()).collect();
     wanted.extend(["0 1".into(), "0 2".into()]);
     assert_eq!(seen, wanted.iter().map(String::as_str).collect());
@@ -83,12 +83,13 @@ fn every_answer_comes_up() {
 
 /// Each operation gives each answer that it has: both verdicts, refusals up
 /// to 7, 8 if it is lent scratch, 9 if it is lent output, 16 if it is asked for
-/// a location, and no other.
+/// a location, 17 if it asks for a joint reset, and no other.
 #[test]
 fn every_answer_of_an_operation_comes_up() {
     let all = all_answered();
     let gives = |word: &str, start: &str| {
-        let mut cases = all.iter().filter(|(_, line, _)| line.starts_with(word));
+        let first = |line: &str| line.split(' ').next() == Some(word);
+        let mut cases = all.iter().filter(|(_, line, _)| first(line));
         cases.any(|(_, _, answer)| {
             let rest = answer.strip_prefix(start);
             rest.is_some_and(|rest| !rest.starts_with(|c: char| c.is_ascii_digit()))
@@ -104,6 +105,9 @@ fn every_answer_of_an_operation_comes_up() {
         ("margin", &[]),
         ("rounds", &[]),
         ("soonest", &[8, 16]),
+        ("judge_joint", &[8, 17]),
+        ("marks_joint", &[8, 9, 17]),
+        ("write_joint", &[8, 9, 17]),
     ] {
         for number in 0..=LAST {
             let expected = number <= 7 || beyond_7.contains(&number);
@@ -114,7 +118,14 @@ fn every_answer_of_an_operation_comes_up() {
             );
         }
     }
-    for word in ["judge", "write", "sheet_margin", "harm"] {
+    for word in [
+        "judge",
+        "write",
+        "sheet_margin",
+        "harm",
+        "judge_joint",
+        "write_joint",
+    ] {
         assert!(gives(word, "0 0") && gives(word, "0 1"));
     }
 }
@@ -280,6 +291,111 @@ fn the_brute_force_route_judges_alike() {
     assert!(by_mark[1] >= 150 && by_mark[2] >= 75, "{by_mark:?}");
 }
 
+/// What a line for joint resets must tell of a model: the number, what it leaves
+/// zero, and the output, which holds 7 at first.
+fn joint_answer(brute: &Result<Brute, u8>, word: &str, lengths: &[usize]) -> String {
+    let (output, scratch) = match word {
+        "judge_joint" => (None, lengths),
+        _ => (Some(lengths[0]), &lengths[1..]),
+    };
+    let states = brute.as_ref().map_or(0, |brute| brute.states.list.len());
+    let least = scratch.iter().copied().min().unwrap_or(SCRATCH);
+    let found = brute.as_ref().map_err(|&refusal| refusal);
+    let found = found.and_then(|brute| if least < states { Err(8) } else { Ok(brute) });
+    let found = found.and_then(|brute| brute.joint());
+    let bytes = found.as_ref().map_or(Vec::new(), |joint| match word {
+        "marks_joint" => joint.marked.iter().map(|&mark| mark.into()).collect(),
+        _ => joint.evidence.clone(),
+    });
+    let too_short = output.is_some_and(|output| output < bytes.len());
+    let (number, out) = match found {
+        Err(refusal) => (refusal.to_string(), Vec::new()),
+        Ok(_) if too_short => ("9".to_string(), Vec::new()),
+        Ok(joint) => {
+            let verdict = u8::from(joint.is_unsafe);
+            let number = match word {
+                "judge_joint" => format!("0 {verdict} {states} {}", joint.count),
+                "marks_joint" => format!("0 {states}"),
+                _ => format!("0 {verdict} {}", bytes.len()),
+            };
+            (number, bytes)
+        }
+    };
+    let past_8 = number.starts_with('0') || ["9", "17"].contains(&number.as_str());
+    let zero = format!(" {}", if past_8 { states } else { 0 }).repeat(4);
+    let dirt = std::iter::repeat_n(7, output.unwrap_or(0).saturating_sub(out.len()));
+    let words: Vec<String> = out
+        .into_iter()
+        .chain(dirt)
+        .map(|byte| byte.to_string())
+        .collect();
+    let out = match word {
+        "judge_joint" => String::new(),
+        "marks_joint" => format!(", out {}", words.concat()),
+        _ => format!(", out {}", words.join(",")),
+    };
+    format!("{number}, zero{zero}{}", out.trim_end())
+}
+
+/// The whole answers to the lines for joint resets, of all but the large plans, by
+/// the brute-force route.
+#[test]
+fn the_brute_force_route_takes_alike() {
+    let mut answered: BTreeMap<(String, u32), usize> = BTreeMap::new();
+    let mut last = (Vec::new(), Err(1));
+    for (model, line, answer) in all_answered() {
+        let (word, rest) = line.split_once(' ').unwrap_or((&line, ""));
+        let many = read_model(&model).is_ok_and(|model| states_of(&model) > 300);
+        if !word.ends_with("_joint") || many {
+            continue;
+        }
+        if last.0 != model {
+            last = (model.clone(), Brute::new(&model));
+        }
+        let lengths: Vec<usize> = rest.split(',').flat_map(str::parse).collect();
+        assert_eq!(answer, joint_answer(&last.1, word, &lengths), "{model:?}");
+        let mark = u32::from(model[0] % 128);
+        *answered.entry((word.to_string(), mark)).or_default() += 1;
+    }
+    println!("{answered:?}");
+    assert_eq!(answered.len(), 3 * 2);
+    assert!(answered.values().all(|&times| times >= 10));
+}
+
+/// With each number of clocks some plan has a full trail that touches and has fewer
+/// steps than ours without a touch, and some one that has as many; with two or three
+/// clocks ours has a face in some. Each of ours is a piece of evidence too.
+#[test]
+fn trails_without_a_touch() {
+    let all = all_answered();
+    let mut seen = BTreeSet::new();
+    for (model, line, answer) in &all {
+        if !line.starts_with("write_joint") || !answer.starts_with("0 1 ") {
+            continue;
+        }
+        let model = read_model(model).unwrap();
+        let clocks = model.clocks;
+        let graph = Graph::new(model);
+        let (full, theirs) = evidence_of(&graph);
+        let (joint, ours) = joint_evidence_of(&graph);
+        let words: Vec<String> = ours.iter().map(u8::to_string).collect();
+        let checked = (words.join(","), "0 2".to_string());
+        assert!(all
+            .iter()
+            .any(|(_, line, answer)| (line, answer) == (&checked.0, &checked.1)));
+        let numbers = numbers_of(&ours).unwrap();
+        let kinds = roles(&graph, &numbers).unwrap().into_iter().zip(numbers);
+        let has_face = kinds.clone().any(|kind| kind == (Role::Kind, FACE.into()));
+        seen.insert((clocks, full.count < joint.count, theirs != ours, has_face));
+    }
+    println!("{seen:?}");
+    for clocks in 1..=MAX_CLOCKS {
+        assert!(seen.contains(&(clocks, true, true, false)));
+        assert!(seen.contains(&(clocks, false, true, false)));
+        assert!(clocks == 1 || seen.contains(&(clocks, true, true, true)));
+    }
+}
+
 /// The rounds and marked states of all but the large plans, by the brute-force
 /// route.
 #[test]
@@ -393,7 +509,7 @@ fn counted_graphs() -> Vec<Graph> {
 fn touches_mark_last() {
     let mut clocks = BTreeSet::new();
     for graph in counted_graphs() {
-        let levels = levels(&graph, &Components::new(&graph), ALL_STEPS);
+        let levels = levels(&graph, with_touch(&Components::new(&graph)));
         let [.., before, last] = &levels[..] else {
             continue;
         };
@@ -419,9 +535,10 @@ fn faces_and_touches_save_rounds() {
     let mut saved = [0; 2];
     for graph in counted_graphs() {
         let components = Components::new(&graph);
-        let rounds = |face, touch| levels(&graph, &components, Closure { face, touch }).len();
-        saved[0] += usize::from(rounds(false, true) > rounds(true, true));
-        saved[1] += usize::from(rounds(true, false) > rounds(true, true));
+        let touch = Some(&components);
+        let rounds = |face, touch| levels(&graph, Closure { face, touch }).len();
+        saved[0] += usize::from(rounds(false, touch) > rounds(true, touch));
+        saved[1] += usize::from(rounds(true, None) > rounds(true, touch));
     }
     assert!(saved[0] >= 2 && saved[1] >= 10, "{saved:?}");
 }

@@ -63,6 +63,62 @@ fn judge_and_evidence() {
     assert_eq!(answer(&["marks", "-"], &TWO), [1, 1, 1, 0, 0, 1]);
 }
 
+/// One clock, ceiling 2: a loop with a reset, and a forbidden location that one waits
+/// for until 2.
+const WAIT: [u8; 20] = [1, 1, 2, 2, 2, 0, 0, 0, 1, 0, 0, 0, 1, 0, 2, 0, 1, 0, 2, 2];
+
+#[test]
+fn joint_resets() {
+    for (arguments, input, output) in [
+        (
+            &["judge-joint", "-"][..],
+            &WAIT[..],
+            &b"verdict unsafe\nstates 10\nsteps 5\n"[..],
+        ),
+        (
+            &["judge", "-"],
+            &WAIT,
+            b"verdict unsafe\nstates 10\nsteps 4\n",
+        ),
+        (
+            &["judge-joint", "-", "3"],
+            &ROW,
+            b"verdict safe\nstates 3\nin 3\n",
+        ),
+        (&["evidence-joint", "-"], &WAIT, &[2, 5, 0, 0, 0, 0, 1, 1]),
+        (&["evidence-joint", "-"], &ROW, &[1, 5, 3, 1]),
+        (
+            &["marks-joint", "-", "10"],
+            &WAIT,
+            &[1, 1, 1, 1, 1, 0, 0, 0, 0, 1],
+        ),
+        // The evidence is lent eight bytes here, and has as many.
+        (
+            &["judge-joint", "-", "--output", "8"],
+            &WAIT,
+            b"verdict unsafe\nstates 10\nsteps 5\n",
+        ),
+        (
+            &["judge-joint", "-", "--output", "7"],
+            &WAIT,
+            b"refused 9\n",
+        ),
+        (
+            &["marks-joint", "-", "--output", "9"],
+            &WAIT,
+            b"refused 9\n",
+        ),
+    ] {
+        assert_eq!(answer(arguments, input), output, "{arguments:?}");
+    }
+    for command in ["judge-joint", "evidence-joint", "marks-joint"] {
+        assert_eq!(answer(&[command, "-"], &LOOP), b"refused 17\n");
+        assert_eq!(answer(&[command, "-", "132"], &LOOP), b"refused 17\n");
+        assert_eq!(answer(&[command, "-", "131"], &LOOP), b"refused 8\n");
+        assert_eq!(answer(&[command, "-"], &LOOP[..45]), b"refused 1\n");
+    }
+}
+
 #[test]
 fn margin_and_harm() {
     assert_eq!(
@@ -195,6 +251,9 @@ fn wrong_arguments() {
         &["generate", "1", "x"],
         &[],
         &["judge", "-", "x"],
+        &["judge-joint"],
+        &["evidence-joint", "-", "x"],
+        &["marks-joint", "-", "1", "2"],
         &["shortest"],
         &["shortest", "-", "4000"],
         &["soonest", "-"],
@@ -215,7 +274,10 @@ fn cases_and_answers() {
     assert!(printed.contains("\njudge: 0 1 132 8, zero 132 132 132 132\n"));
     let row = b"- row\n1,1,1,1,0,0,0,0\n1,5,3,1\njudge\njudge 3,3,3,3\nmarks 4,3,3,3,3\n\
         sheet_margin\nsheet_margin 3,3,3,3\nharm 3,3,3,3\nplan\nplan 0\nplan 9\nrounds\n\
-        soonest 0\nsoonest 0 3,3,3,3\nsoonest 1 3,4,5,6\nsoonest 1 2,3,3,3\n";
+        soonest 0\nsoonest 0 3,3,3,3\nsoonest 1 3,4,5,6\nsoonest 1 2,3,3,3\n\
+        judge_joint\njudge_joint 3,4,5,6\nmarks_joint 4,3,3,3,3\nwrite_joint 3,3,3,3,3\n\
+        - loop\n1,2,2,4,4,0,0,0,0,0,0,0,0,0,0,1,0,0,0,1,2,1,1,1,1,1,2,1,0,2,0,2,2,1,2,0,2,2,2,2,3,0,0,0,2,2\n\
+        judge_joint 132,132,132,132\nmarks_joint 1,132,132,132,132\nwrite_joint 1\n";
     let lent = String::from_utf8(answer(&["answers", "-", "2"], row)).unwrap();
     let lines: Vec<&str> = lent.lines().collect();
     assert_eq!(
@@ -237,6 +299,14 @@ fn cases_and_answers() {
             "soonest 0 3,3,3,3: 0 0, zero 3 3 3 3",
             "soonest 1 3,4,5,6: 16, zero 3 3 3 3",
             "soonest 1 2,3,3,3: 8, zero 0 0 0 0",
+            "judge_joint: 8, zero 0 0 0 0",
+            "judge_joint 3,4,5,6: 0 0 3 3, zero 3 3 3 3",
+            "marks_joint 4,3,3,3,3: 0 3, zero 3 3 3 3, out 1117",
+            "write_joint 3,3,3,3,3: 9, zero 3 3 3 3, out 7,7,7",
+            "- loop",
+            "judge_joint 132,132,132,132: 17, zero 132 132 132 132",
+            "marks_joint 1,132,132,132,132: 17, zero 132 132 132 132, out 7",
+            "write_joint 1: 8, zero 0 0 0 0, out 7",
         ]
     );
 }
@@ -248,6 +318,8 @@ fn wrong_cases() {
         b"- row\n1\nmark 3\n",
         b"- row\n1\njudge x\n",
         b"- row\n1\nsoonest\n",
+        b"- row\n1\njudge_joint x\n",
+        b"- row\n1\nwrite-joint 3\n",
         b"- row\n1\nsoonest -1\n",
         b"- row\n1\nsoonest 18446744073709551616\n",
     ] {

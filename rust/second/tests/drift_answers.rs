@@ -106,6 +106,8 @@ fn both_routes_on_small_models() {
         ("small", 2_500),
         ("blank", 1_000),
         ("dead-links", 1_500),
+        ("joint", 500),
+        ("disjoint", 500),
         ("noise", 1_500),
     ] {
         models(kind, seeds, 160)

@@ -4,19 +4,21 @@ mod common;
 
 use common::*;
 use second::blanks::{by_both_marks, is_safe_by_its_mark};
+use second::brute::read::{read, PlanEdge};
 use second::calls::states_of;
 use second::components::Components;
 use second::dead_links::{has_dead_edge, is_refused_by_all_edges};
 use second::generate::{classify, generate, respelled, shares};
 use second::generate::{Class, KINDS, MIDDLE, SMALL, TINY};
 use second::graph::{Graph, JUMP, TIME};
+use second::joint_resets::{has_another_trail, lacks_by_all_edges};
 use second::limits::{MAX_CLOCKS, MAX_STATES};
 use second::marking::{reached, Closure};
 use second::mutate::{self, mutate, mutate_as};
 use second::numbers::numbers_of;
 use second::random::Random;
 use second::refusal::LAST;
-use second::{judge, read_model, read_plan, soonest, Edge, Model};
+use second::{judge, judge_joint, read_model, read_plan, soonest, Edge, Model, Reading};
 use std::collections::{BTreeMap, BTreeSet};
 
 fn model(seed: u64, kind: &str) -> Model {
@@ -264,6 +266,100 @@ fn forms_of(bytes: &[u8], edge: &Edge) -> Vec<&'static str> {
     forms
 }
 
+/// How often each thing is seen.
+type Seen = BTreeMap<&'static str, usize>;
+
+fn note(seen: &mut Seen, found: &[(&'static str, bool)]) {
+    for (what, is_found) in found {
+        *seen.entry(what).or_default() += usize::from(*is_found);
+    }
+}
+
+/// The sizes of models that are mostly small.
+fn sizes(model: &Model) -> [(&'static str, bool); 3] {
+    let states = states_of(model);
+    [
+        ("small", states <= SMALL),
+        ("middle", (SMALL + 1..=MIDDLE).contains(&states)),
+        ("largest", states == MAX_STATES),
+    ]
+}
+
+/// Each is taken, with either mark and verdict and every number of clocks. Some have
+/// no closed walk, some one that only dead edges keep from counting; in many the full
+/// trail touches, and is mostly shorter.
+#[test]
+fn joint_models() {
+    let mut kinds: BTreeMap<(Class, u32), usize> = BTreeMap::new();
+    let mut seen = Seen::new();
+    for seed in 0..1_000 {
+        let bytes = generate(seed, "joint").unwrap();
+        let Reading { mark, model } = read_plan(&bytes).unwrap();
+        *kinds.entry((classify(&model), mark)).or_default() += 1;
+        let (full, joint) = (judge(&bytes, ENOUGH), judge_joint(&bytes, ENOUGH));
+        note(&mut seen, &sizes(&model));
+        note(
+            &mut seen,
+            &[
+                ("one clock", model.clocks == 1),
+                ("two clocks", model.clocks == 2),
+                ("three clocks", model.clocks == 3),
+                ("no walk", !model.has_closed_walk(|_| true)),
+                ("by dead edges", lacks_by_all_edges(&model)),
+                ("another trail", has_another_trail(&model)),
+                ("a longer one", full.unwrap().count < joint.unwrap().count),
+            ],
+        );
+    }
+    println!("{kinds:?} {seen:?}");
+    assert!(kinds.len() == 4 && kinds.values().all(|&times| times >= 120));
+    assert!(seen["small"] >= 750 && seen["middle"] >= 100 && seen["largest"] >= 8);
+    let clocks = ["one clock", "two clocks", "three clocks"];
+    assert!(clocks.iter().all(|clocks| seen[clocks] >= 200));
+    assert!(seen["no walk"] >= 80 && seen["by dead edges"] >= 100);
+    assert!(seen["another trail"] >= 300 && seen["a longer one"] >= 250);
+}
+
+/// Each is accepted and gives 17, with either mark and of every class. Most would have
+/// a joint reset by one edge, and many have other closed walks with a joint reset.
+#[test]
+fn disjoint_models() {
+    let mut kinds: BTreeMap<(Class, u32), usize> = BTreeMap::new();
+    let mut seen = Seen::new();
+    for seed in 0..1_000 {
+        let bytes = generate(seed, "disjoint").unwrap();
+        let Reading { mark, model } = read_plan(&bytes).unwrap();
+        assert_eq!(judge_joint(&bytes, ENOUGH), Err(17));
+        *kinds.entry((classify(&model), mark)).or_default() += 1;
+        let with_all = |edge: usize| {
+            let mut other = model.clone();
+            other.edges[edge].resets = (1 << model.clocks) - 1;
+            !other.lacks_a_joint_reset()
+        };
+        let plan = read(&bytes).unwrap();
+        let is_joint = |edge: &&PlanEdge| edge.resets.iter().all(|&reset| reset);
+        let walks = plan.closed_walks();
+        note(&mut seen, &sizes(&model));
+        note(
+            &mut seen,
+            &[
+                ("two clocks", model.clocks == 2),
+                ("three clocks", model.clocks == 3),
+                ("one reset short", (0..model.edges.len()).any(with_all)),
+                (
+                    "other walks",
+                    walks.iter().any(|walk| walk.iter().any(is_joint)),
+                ),
+            ],
+        );
+    }
+    println!("{kinds:?} {seen:?}");
+    assert!(kinds.len() == 6 && kinds.values().all(|&times| times >= 100));
+    assert!(seen["small"] >= 750 && seen["middle"] >= 100 && seen["largest"] >= 8);
+    assert!(seen["two clocks"] >= 250 && seen["three clocks"] >= 250);
+    assert!(seen["one reset short"] >= 900 && seen["other walks"] >= 500);
+}
+
 /// All header numbers come up, and marks above 2 as well as 0.
 #[test]
 fn refused_marks() {
@@ -367,7 +463,10 @@ fn faces_reach_nothing_new() {
             let one_clock = model.clocks == 1;
             let graph = Graph::new(model);
             let components = Components::new(&graph);
-            let by = |face, touch| reached(&graph, &components, Closure { face, touch });
+            let by = |face, touch: bool| {
+                let touch = touch.then_some(&components);
+                reached(&graph, Closure { face, touch })
+            };
             assert_eq!(by(false, false), by(true, false));
             assert_eq!(by(false, true), by(true, true));
             if one_clock {

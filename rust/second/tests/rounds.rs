@@ -11,7 +11,7 @@ use second::components::Components;
 use second::generate::{generate, KINDS};
 use second::graph::Graph;
 use second::limits::MAX_CLOCKS;
-use second::marking::{levels, ALL_STEPS};
+use second::marking::{levels, with_touch};
 use second::{judge, marks, read_model, rounds};
 
 /// Rounds and marked states.
@@ -57,7 +57,7 @@ fn bounds_on_every_kind() {
             };
             let (rounds, marked) = counted(&model);
             assert!((1..=marked).contains(&rounds), "{kind} {seed}");
-            let mut gone_over = levels(&graph, &Components::new(&graph), ALL_STEPS).concat();
+            let mut gone_over = levels(&graph, with_touch(&Components::new(&graph))).concat();
             gone_over.sort();
             assert_eq!(gone_over, marked_states(&model), "{kind} {seed}");
             assert_eq!(gone_over.len(), marked);

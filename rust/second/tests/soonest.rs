@@ -6,7 +6,6 @@ mod common;
 use common::*;
 use second::blanks::{by_both_marks, with_mark};
 use second::brute::read::read;
-use second::components::Components;
 use second::generate::{generate, respelled, KINDS};
 use second::graph::Graph;
 use second::limits::{MAX_CLOCKS, MAX_STATES};
@@ -227,9 +226,9 @@ fn where_perfect_clocks_get() {
         let graph = Graph::new(read_model(&model).unwrap());
         let closure = Closure {
             face: false,
-            touch: false,
+            touch: None,
         };
-        let reached = reached(&graph, &Components::new(&graph), closure);
+        let reached = reached(&graph, closure);
         let mut gets = vec![false; graph.model.locations.len()];
         for state in (0..graph.states()).filter(|&state| reached[state]) {
             gets[graph.location_of(state)] = true;

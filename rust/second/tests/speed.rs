@@ -7,7 +7,9 @@ use common::ENOUGH;
 use second::generate::{generate_sized, Class};
 use second::limits::{MAX_CEILING, MAX_CLOCKS, MAX_LOCATIONS, MAX_STATES};
 use second::program::OUTPUT;
+use second::shortest_plan::shortest_plan;
 use second::{check_evidence, harm, judge, rounds, sheet_margin, soonest, write_evidence};
+use second::{judge_joint, marks_joint, read_plan, write_joint};
 use std::time::{Duration, Instant};
 
 fn within(limit: Duration, sizes: &[(usize, u32, usize, usize)], classes: &[Class]) {
@@ -37,9 +39,29 @@ fn within(limit: Duration, sizes: &[(usize, u32, usize, usize)], classes: &[Clas
                 let begin = Instant::now();
                 assert_ne!(soonest(&model, locations as u64 - 1, ENOUGH), Err(8));
                 assert!(begin.elapsed() < limit, "soonest");
+                joint_within(limit, &model);
             }
         }
     }
+}
+
+/// The calls for a joint reset, with every edge resetting every clock.
+fn joint_within(limit: Duration, model: &[u8]) {
+    let mut reading = read_plan(model).unwrap();
+    let all = (1 << reading.model.clocks) - 1;
+    let edges = reading.model.edges.iter_mut();
+    edges.for_each(|edge| edge.resets = all);
+    let model = shortest_plan(&reading);
+    let mut out = vec![0; OUTPUT];
+    let begin = Instant::now();
+    assert!(judge_joint(&model, ENOUGH).is_ok());
+    assert!(begin.elapsed() < limit, "judge, joint");
+    let begin = Instant::now();
+    assert!(marks_joint(&model, ENOUGH, &mut out).is_ok());
+    assert!(begin.elapsed() < limit, "marks, joint");
+    let begin = Instant::now();
+    assert!(write_joint(&model, ENOUGH, &mut out).is_ok());
+    assert!(begin.elapsed() < limit, "evidence, joint");
 }
 
 #[test]

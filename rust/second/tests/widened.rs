@@ -25,6 +25,7 @@ fn models() -> impl Iterator<Item = Model> {
                 "clocks-2",
                 "clocks-3",
                 "dead-links",
+                "joint",
             ]
             .map(|kind| generate(seed, kind).unwrap())
         })
@@ -130,7 +131,15 @@ fn bytes<'a>(kinds: &'a [&str], seeds: u64) -> impl Iterator<Item = Vec<u8>> + '
 #[test]
 fn harmless_drift() {
     let (mut safe, mut harmed) = (0, 0);
-    let kinds = ["tiny", "small", "blank", "middle", "clocks-3", "dead-links"];
+    let kinds = [
+        "tiny",
+        "small",
+        "blank",
+        "middle",
+        "clocks-3",
+        "dead-links",
+        "joint",
+    ];
     for bytes in bytes(&kinds, 400) {
         let Ok(SheetMargin::Safe { margin, .. }) = sheet_margin(&bytes, ENOUGH) else {
             continue;
@@ -152,7 +161,15 @@ fn harmless_drift() {
 #[test]
 fn harm_in_time() {
     let mut drifted = 0;
-    let kinds = ["tiny", "small", "blank", "drift", "clocks-3", "dead-links"];
+    let kinds = [
+        "tiny",
+        "small",
+        "blank",
+        "drift",
+        "clocks-3",
+        "dead-links",
+        "joint",
+    ];
     for bytes in bytes(&kinds, 400) {
         let Ok(Harm::Within { bound, .. }) = harm(&bytes, ENOUGH) else {
             continue;

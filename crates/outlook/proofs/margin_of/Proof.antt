@@ -1,10 +1,12 @@
 -- `outlook::margin_of` meets its contract.
 use borrow.Author.Needs.{needs}
 use native.Mathlib.Omega.{arith}
-use mathlib.Core.Path.{sym, _∙_}
-use Rattle.graph.proofs.Plan.{size-states}
+use mathlib.Core.Path.{refl, sym, _∙_}
+use mathlib.Core.Bool.{true}
 use Rattle.successors.proofs.Room.{states-limit}
-use Rattle.outlook.proofs.Found.{our-blank, our-passes, margin-found}
+use Rattle.evidence_writer.proofs.Verdict.{distance-long}
+use Rattle.evidence_writer.proofs.Sheet.{sheet-found}
+use Rattle.outlook.proofs.Found.{sheet-as, our-blank, our-passes, margin-found}
 use Rattle.outlook.proofs.margin_of.Statement.{statement}
 use Rattle.outlook.proofs.margin_of.Tie as tie
 
@@ -14,7 +16,7 @@ fill-sheet-requires c κs =
     let m = start .args .m in
     let ok = start .pre .0 .0 in
     let K = start .pre .1 .0 .0 in
-    (ok, K, start .pre .1 .0 .1 ∙ sym (K .heights .long))
+    (ok, sheet-found ok true refl K, start .pre .1 .0 .1 ∙ sym (K .heights .long))
 
 fill-fringe-requires : tie.Need-fill-fringe-requires
 fill-fringe-requires c κs =
@@ -22,7 +24,7 @@ fill-fringe-requires c κs =
     let m = start .args .m in
     let ok = start .pre .0 .0 in
     let K = start .pre .1 .0 .0 in
-    record { lawful = ok; tables = start .pre .0 .3 .shapes; allowed = start .pre .0 .2 .flags; long = c .before .before .before .before .fill-sheet .kept .1 .1 .1 .0 ∙ start .pre .1 .0 .1; blank = our-blank m ok (start .pre .1 .1) _ (c .before .before .before .before .fill-sheet .ensures) }
+    record { lawful = ok; tables = start .pre .0 .3 .shapes; allowed = start .pre .0 .2 .flags; long = c .before .before .before .before .fill-sheet .kept .1 .1 .1 .1 .0 ∙ start .pre .1 .0 .1; blank = our-blank m ok (start .pre .1 .1) _ (sheet-as m (c .before .before .before .before .fill-sheet .ensures)) }
 
 fringe-entries-requires : tie.Need-fringe-entries-requires
 fringe-entries-requires c κs =
@@ -30,7 +32,7 @@ fringe-entries-requires c κs =
     let m = start .args .m in
     let ok = start .pre .0 .0 in
     let K = start .pre .1 .0 .0 in
-    (record { lawful = ok; listed = start .pre .0 .1; flow = start .pre .0 .2 .flow; passes = our-passes m ok (start .pre .1 .1) _ (c .before .before .before .before .before .before .before .before .before .before .before .before .fill-sheet .ensures); fringe = c .before .before .before .before .before .before .before .fill-fringe .ensures }, record { heads-long = K .heights .long; links-long = K .distances .long ∙ size-states m; ranks-long = start .pre .1 .0 .2 })
+    (record { lawful = ok; listed = start .pre .0 .1; flow = start .pre .0 .2 .flow; passes = our-passes m ok (start .pre .1 .1) _ (sheet-as m (c .before .before .before .before .before .before .before .before .before .before .before .before .fill-sheet .ensures)); fringe = c .before .before .before .before .before .before .before .fill-fringe .ensures }, record { heads-long = K .heights .long; links-long = distance-long K; ranks-long = start .pre .1 .0 .2 })
 
 span-of-requires : tie.Need-span-of-requires
 span-of-requires c κs =
@@ -72,7 +74,7 @@ returns c =
     let m = start .args .m in
     let ok = start .pre .0 .0 in
     let K = start .pre .1 .0 .0 in
-    margin-found m _ (c .before .before .before .before .before .before .before .before .before .before .before .before .before .before .before .before .before .before .before .before .before .fill-sheet .ensures) _ (c .before .before .before .before .before .before .before .before .fringe-entries .ensures .0) _ _ (c .before .span-of .ensures .0) (c .from-byte .ensures)
+    margin-found m _ (sheet-as m (c .before .before .before .before .before .before .before .before .before .before .before .before .before .before .before .before .before .before .before .before .before .fill-sheet .ensures)) _ (c .before .before .before .before .before .before .before .before .fringe-entries .ensures .0) _ _ (c .before .span-of .ensures .0) (c .from-byte .ensures)
 
 pub margin-of-spec : {M : Type 1} → statement M
 margin-of-spec =

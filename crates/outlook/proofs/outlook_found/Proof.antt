@@ -1,28 +1,26 @@
 -- `outlook::outlook_found` meets its contract.
 use borrow.Author.Needs.{needs}
 use native.Mathlib.Omega.{arith}
-use mathlib.Core.Path.{sym, _∙_}
+use mathlib.Core.Path.{refl, sym, ap, _∙_}
+use mathlib.Core.Bool.{true}
 use lib.Seq.{length-take-le}
 use borrow.Author.Tests.{not-true, not-false}
-use Rattle.graph.proofs.Plan.{size-states}
+use Rattle.theory.specs.Trail.{trailStates}
+use Rattle.theory.specs.WithoutTouch.{withTouch}
+use Rattle.theory.proofs.WithoutTouch.{with-touch}
 use Rattle.graph.specs.Plan.{systemOfModel}
-use Rattle.graph.proofs.Models.{system-laws}
 use Rattle.graph.proofs.States.{clocks-of, ceiling-of}
 use Rattle.survey.proofs.Tables.{start-product}
-use Rattle.survey.proofs.Forbidden.{kinds, forbids-by}
-use Rattle.evidence_writer.proofs.Verdict.{unsafe-by, safe-by, trail-asked, trail-told}
-use Rattle.outlook.proofs.Found.{unsafe-found, delay-found, safe-found, bound-found}
+use Rattle.survey.proofs.Forbidden.{kinds}
+use Rattle.evidence_writer.proofs.Verdict.{distance-long, steps-by, trail-asked, trail-told}
+use Rattle.outlook.proofs.Found.{found-unsafe, found-safe, unsafe-found, delay-found, safe-found, bound-found}
 use Rattle.outlook.proofs.outlook_found.Statement.{statement}
 use Rattle.outlook.proofs.outlook_found.Tie as tie
 
 count-requires : tie.Need-count-requires
 count-requires c κs =
     let start = c .before .before .before .before .before .before .before .before .before .before in
-    let m = start .args .m in
-    let ok = start .pre .0 in
-    let F = start .pre .2 .flow in
-    let K = start .pre .4 in
-    (clocks-of m ok, ceiling-of m ok)
+    (clocks-of (start .args .m) (start .pre .0 .lawful), ceiling-of (start .args .m) (start .pre .0 .lawful))
 
 from-short-requires : tie.Need-from-short-requires
 from-short-requires c κs = search needs
@@ -33,13 +31,9 @@ slice-aggregate-fewest c = search needs
 fewest-requires : tie.Need-fewest-requires
 fewest-requires c κs =
     let start = c .before .before .before .before .before .before .before .before .before .before .before .before .before .before in
-    let m = start .args .m in
-    let ok = start .pre .0 in
-    let F = start .pre .2 .flow in
-    let K = start .pre .4 in
-    let r = c .before .before .from-short .result in
+    let K = start .pre .0 in
     let e = c .before .before .from-short .ensures ∙ c .before .before .before .count .ensures in
-    kinds m ok (start .args .distance .now) r (K .surveyed .distances) e
+    kinds (start .args .m) (K .lawful) true (start .args .distance .now) _ (K .levelled .surveyed .distances) e
 
 same-length : tie.Need-same-length
 same-length c = search needs
@@ -48,14 +42,12 @@ returns : tie.Need-returns
 returns c =
     let start = c .before .before .before .before .before .before .before .before .before .before .before .before .before .before .before .before .before in
     let m = start .args .m in
-    let ok = start .pre .0 in
-    let F = start .pre .2 .flow in
-    let K = start .pre .4 in
+    let K = start .pre .0 in
     let r = c .before .before .before .before .before .from-short .result in
     let e = c .before .before .before .before .before .from-short .ensures ∙ c .before .before .before .before .before .before .count .ensures in
     let steps = c .before .before .fewest .result in
-    let s = c .before .before .fewest .ensures (systemOfModel m) (system-laws m ok) (K .surveyed .distances) (forbids-by m ok r e) in
-    unsafe-found m _ (not-true _ (c .if2 .taken)) (unsafe-by m ok F (start .pre .3) K r e steps s (c .before .if1 .taken))
+    let f = c .before .before .fewest .ensures in
+    unsafe-found m _ (not-true _ (c .if2 .taken)) (found-unsafe K r e steps f (c .before .if1 .taken))
 
 from-byte-requires : tie.Need-from-byte-requires
 from-byte-requires c κs = search needs
@@ -63,13 +55,8 @@ from-byte-requires c κs = search needs
 mul-start : tie.Need-mul-start
 mul-start c =
     let start = c .before .before .before .before .before .before .before .before .before .before .before .before .before .before .before .before .before .before in
-    let m = start .args .m in
-    let ok = start .pre .0 in
-    let F = start .pre .2 .flow in
-    let K = start .pre .4 in
-    let r = c .before .before .before .before .before .before .from-short .result in
     let e = c .before .before .before .before .before .before .from-short .ensures ∙ c .before .before .before .before .before .before .before .count .ensures in
-    rw (c .from-byte .ensures) (omega (arith, start-product m ok r e))
+    rw (c .from-byte .ensures) (omega (arith, start-product (start .args .m) (start .pre .0 .lawful) (c .before .before .before .before .before .before .from-short .result) e))
 
 slice-aggregate-trail-states : tie.Need-slice-aggregate-trail-states
 slice-aggregate-trail-states c = search needs
@@ -78,55 +65,46 @@ trail-states-requires : tie.Need-trail-states-requires
 trail-states-requires c κs =
     let start = c .before .before .before .before .before .before .before .before .before .before .before .before .before .before .before .before .before .before .before .before .before .before .before in
     let m = start .args .m in
-    let ok = start .pre .0 in
-    let F = start .pre .2 .flow in
-    let K = start .pre .4 in
+    let K = start .pre .0 in
     let r = c .before .before .before .before .before .before .before .before .before .before .before .from-short .result in
     let e = c .before .before .before .before .before .before .before .before .before .before .before .from-short .ensures ∙ c .before .before .before .before .before .before .before .before .before .before .before .before .count .ensures in
     let steps = c .before .before .before .before .before .before .before .before .fewest .result in
-    let s = c .before .before .before .before .before .before .before .before .fewest .ensures (systemOfModel m) (system-laws m ok) (K .surveyed .distances) (forbids-by m ok r e) in
-    rw (c .before .before .before .before .before .from-byte .ensures) (trail-asked m ok F (start .pre .3) K r e steps s _ (start .pre .6) (start .pre .5) (c .before .before .before .before .before .before .before .if1 .taken))
+    let f = c .before .before .before .before .before .before .before .before .fewest .ensures in
+    rw (c .before .before .before .before .before .from-byte .ensures) (trail-asked K r e steps (c .before .before .before .before .before .before .before .if1 .taken))
 
 slice-reshare-prefix-trail-delay : tie.Need-slice-reshare-prefix-trail-delay
 slice-reshare-prefix-trail-delay c =
     let start = c .before .before .before .before .before .before .before .before .before .before .before .before .before .before .before .before .before .before .before .before .before .before .before .before .before .before .before .before in
-    let m = start .args .m in
-    let ok = start .pre .0 in
-    let F = start .pre .2 .flow in
-    let K = start .pre .4 in
-    omega (arith, c .before .before .before .before .trail-states .kept .1 .1 .1 .1 .1 .1 .1 .1 .1 .1 .0, start .pre .6, c .before .before .before .before .before .before .before .before .before .before .before .before .if1 .taken, K .surveyed .distances .long, size-states m)
+    let K = start .pre .0 in
+    omega (arith, c .before .before .before .before .trail-states .kept .1 .1 .1 .1 .1 .1 .1 .1 .1 .1 .1 .0, K .path-long, c .before .before .before .before .before .before .before .before .before .before .before .before .if1 .taken, distance-long (K .levelled .surveyed))
 
 slice-aggregate-trail-delay : tie.Need-slice-aggregate-trail-delay
 slice-aggregate-trail-delay c =
     let start = c .before .before .before .before .before .before .before .before .before .before .before .before .before .before .before .before .before .before .before .before .before .before .before .before .before .before .before .before .before in
-    let m = start .args .m in
-    let ok = start .pre .0 in
-    let F = start .pre .2 .flow in
-    let K = start .pre .4 in
-    sym (length-take-le _ _ (omega (arith, c .before .before .before .before .before .trail-states .kept .1 .1 .1 .1 .1 .1 .1 .1 .1 .1 .0, start .pre .6, c .before .before .before .before .before .before .before .before .before .before .before .before .before .if1 .taken, K .surveyed .distances .long, size-states m)))
+    let K = start .pre .0 in
+    sym (length-take-le _ _ (omega (arith, c .before .before .before .before .before .trail-states .kept .1 .1 .1 .1 .1 .1 .1 .1 .1 .1 .1 .0, K .path-long, c .before .before .before .before .before .before .before .before .before .before .before .before .before .if1 .taken, distance-long (K .levelled .surveyed))))
 
 trail-delay-requires : tie.Need-trail-delay-requires
 trail-delay-requires c κs =
     let start = c .before .before .before .before .before .before .before .before .before .before .before .before .before .before .before .before .before .before .before .before .before .before .before .before .before .before .before .before .before .before .before .before in
     let m = start .args .m in
-    let ok = start .pre .0 in
-    let F = start .pre .2 .flow in
-    let K = start .pre .4 in
+    let K = start .pre .0 in
     let r = c .before .before .before .before .before .before .before .before .before .before .before .before .before .before .before .before .before .before .before .before .from-short .result in
     let e = c .before .before .before .before .before .before .before .before .before .before .before .before .before .before .before .before .before .before .before .before .from-short .ensures ∙ c .before .before .before .before .before .before .before .before .before .before .before .before .before .before .before .before .before .before .before .before .before .count .ensures in
     let steps = c .before .before .before .before .before .before .before .before .before .before .before .before .before .before .before .before .before .fewest .result in
-    let s = c .before .before .before .before .before .before .before .before .before .before .before .before .before .before .before .before .before .fewest .ensures (systemOfModel m) (system-laws m ok) (K .surveyed .distances) (forbids-by m ok r e) in
+    let f = c .before .before .before .before .before .before .before .before .before .before .before .before .before .before .before .before .before .fewest .ensures in
     let states = c .before .before .before .before .before .before .before .before .trail-states in (
       record {
-        lawful = ok;
-        listed = start .pre .1;
-        flow = F;
-        level-long = K .surveyed .heights .long;
-        queue-long = states .kept .1 .1 .1 .1 .1 .1 .1 .1 .0 ∙ (K .surveyed .distances .long ∙ size-states m);
-        walk-long = start .pre .5;
+        lawful = K .lawful;
+        listed = K .listed;
+        flow = K .flow;
+        level-long = K .levelled .surveyed .heights .long;
+        queue-long = states .kept .1 .1 .1 .1 .1 .1 .1 .1 .1 .0 ∙ distance-long (K .levelled .surveyed);
+        walk-long = K .queue-long;
       },
-      unsafe-by m ok F (start .pre .3) K r e steps s (c .before .before .before .before .before .before .before .before .before .before .before .before .before .before .before .before .if1 .taken),
-      states .ensures .1 (systemOfModel m) (rw (c .before .before .before .before .before .before .before .before .before .before .before .before .before .before .from-byte .ensures) (trail-told m ok F (start .pre .3) K r e steps s)),
+      found-unsafe K r e steps f (c .before .before .before .before .before .before .before .before .before .before .before .before .before .before .before .before .if1 .taken),
+      states .ensures .1 (withTouch true (systemOfModel m)) (rw (c .before .before .before .before .before .before .before .before .before .before .before .before .before .before .from-byte .ensures) (trail-told K r e steps (steps-by K r e steps f)))
+      ∙ ap trailStates (with-touch (systemOfModel m)),
     )
 
 same-length-2 : tie.Need-same-length-2
@@ -145,14 +123,12 @@ returns-2 : tie.Need-returns-2
 returns-2 c =
     let start = c .before .before .before .before .before .before .before .before .before .before .before .before .before .before .before .before .before .before .before .before .before .before .before .before .before .before .before .before .before .before .before .before .before .before .before .before .before .before .before in
     let m = start .args .m in
-    let ok = start .pre .0 in
-    let F = start .pre .2 .flow in
-    let K = start .pre .4 in
+    let K = start .pre .0 in
     let r = c .before .before .before .before .before .before .before .before .before .before .before .before .before .before .before .before .before .before .before .before .before .before .before .before .before .before .before .from-short .result in
     let e = c .before .before .before .before .before .before .before .before .before .before .before .before .before .before .before .before .before .before .before .before .before .before .before .before .before .before .before .from-short .ensures ∙ c .before .before .before .before .before .before .before .before .before .before .before .before .before .before .before .before .before .before .before .before .before .before .before .before .before .before .before .before .count .ensures in
     let steps = c .before .before .before .before .before .before .before .before .before .before .before .before .before .before .before .before .before .before .before .before .before .before .before .before .fewest .result in
-    let s = c .before .before .before .before .before .before .before .before .before .before .before .before .before .before .before .before .before .before .before .before .before .before .before .before .fewest .ensures (systemOfModel m) (system-laws m ok) (K .surveyed .distances) (forbids-by m ok r e) in
-    delay-found m _ (not-false _ (c .before .before .before .before .before .before .before .before .before .before .before .before .before .before .before .before .before .before .before .before .before .before .if2 .left)) (unsafe-by m ok F (start .pre .3) K r e steps s (c .before .before .before .before .before .before .before .before .before .before .before .before .before .before .before .before .before .before .before .before .before .before .before .if1 .taken)) _ (c .before .before .before .before .before .before .trail-delay .ensures)
+    let f = c .before .before .before .before .before .before .before .before .before .before .before .before .before .before .before .before .before .before .before .before .before .before .before .before .fewest .ensures in
+    delay-found m _ (not-false _ (c .before .before .before .before .before .before .before .before .before .before .before .before .before .before .before .before .before .before .before .before .before .before .if2 .left)) (found-unsafe K r e steps f (c .before .before .before .before .before .before .before .before .before .before .before .before .before .before .before .before .before .before .before .before .before .before .before .if1 .taken)) _ (c .before .before .before .before .before .before .trail-delay .ensures)
 
 same-length-6 : tie.Need-same-length-6
 same-length-6 c = search needs
@@ -161,27 +137,26 @@ returns-3 : tie.Need-returns-3
 returns-3 c =
     let start = c .before .before .before .before .before .before .before .before .before .before .before .before .before .before .before .before .before in
     let m = start .args .m in
-    let ok = start .pre .0 in
-    let F = start .pre .2 .flow in
-    let K = start .pre .4 in
+    let K = start .pre .0 in
     let r = c .before .before .before .before .before .from-short .result in
     let e = c .before .before .before .before .before .from-short .ensures ∙ c .before .before .before .before .before .before .count .ensures in
     let steps = c .before .before .fewest .result in
-    let s = c .before .before .fewest .ensures (systemOfModel m) (system-laws m ok) (K .surveyed .distances) (forbids-by m ok r e) in
-    safe-found m _ (c .if3 .taken) (safe-by m ok F (start .pre .3) K r e steps s (c .before .if1 .left))
+    let f = c .before .before .fewest .ensures in
+    safe-found m _ (c .if3 .taken) (found-safe K r e steps f (c .before .if1 .left))
 
 margin-of-requires : tie.Need-margin-of-requires
 margin-of-requires c κs =
     let start = c .before .before .before .before .before .before .before .before .before .before .before .before .before .before .before .before .before .before .before .before .before .before in
     let m = start .args .m in
-    let ok = start .pre .0 in
-    let F = start .pre .2 .flow in
-    let K = start .pre .4 in
+    let K = start .pre .0 in
     let r = c .before .before .before .before .before .before .before .before .before .before .from-short .result in
     let e = c .before .before .before .before .before .before .before .before .before .before .from-short .ensures ∙ c .before .before .before .before .before .before .before .before .before .before .before .count .ensures in
     let steps = c .before .before .before .before .before .before .before .fewest .result in
-    let s = c .before .before .before .before .before .before .before .fewest .ensures (systemOfModel m) (system-laws m ok) (K .surveyed .distances) (forbids-by m ok r e) in
-    ((ok, start .pre .1, start .pre .2, start .pre .3), ((K .surveyed, start .pre .5, start .pre .6), safe-by m ok F (start .pre .3) K r e steps s (c .before .before .before .before .before .before .if1 .left)))
+    let f = c .before .before .before .before .before .before .before .fewest .ensures in
+    (
+      (K .lawful, K .listed, record { flags = start .pre .1; flow = K .flow }, K .by-region .linked refl),
+      ((K .levelled .surveyed, K .queue-long, K .path-long), found-safe K r e steps f (c .before .before .before .before .before .before .if1 .left)),
+    )
 
 same-length-7 : tie.Need-same-length-7
 same-length-7 c = search needs
@@ -202,14 +177,12 @@ returns-4 : tie.Need-returns-4
 returns-4 c =
     let start = c .before .before .before .before .before .before .before .before .before .before .before .before .before .before .before .before .before .before .before .before .before .before .before .before .before .before .before .before .before .before .before .before .before in
     let m = start .args .m in
-    let ok = start .pre .0 in
-    let F = start .pre .2 .flow in
-    let K = start .pre .4 in
+    let K = start .pre .0 in
     let r = c .before .before .before .before .before .before .before .before .before .before .before .before .before .before .before .before .before .before .before .before .before .from-short .result in
     let e = c .before .before .before .before .before .before .before .before .before .before .before .before .before .before .before .before .before .before .before .before .before .from-short .ensures ∙ c .before .before .before .before .before .before .before .before .before .before .before .before .before .before .before .before .before .before .before .before .before .before .count .ensures in
     let steps = c .before .before .before .before .before .before .before .before .before .before .before .before .before .before .before .before .before .before .fewest .result in
-    let s = c .before .before .before .before .before .before .before .before .before .before .before .before .before .before .before .before .before .before .fewest .ensures (systemOfModel m) (system-laws m ok) (K .surveyed .distances) (forbids-by m ok r e) in
-    bound-found m _ (c .before .before .before .before .before .before .before .before .before .before .before .before .before .before .before .before .if3 .left) (safe-by m ok F (start .pre .3) K r e steps s (c .before .before .before .before .before .before .before .before .before .before .before .before .before .before .before .before .before .if1 .left)) _ (c .before .before .before .before .before .before .before .before .before .before .margin-of .ensures)
+    let f = c .before .before .before .before .before .before .before .before .before .before .before .before .before .before .before .before .before .before .fewest .ensures in
+    bound-found m _ (c .before .before .before .before .before .before .before .before .before .before .before .before .before .before .before .before .if3 .left) (found-safe K r e steps f (c .before .before .before .before .before .before .before .before .before .before .before .before .before .before .before .before .before .if1 .left)) _ (c .before .before .before .before .before .before .before .before .before .before .margin-of .ensures)
 
 pub outlook-found-spec : {M : Type 1} → statement M
 outlook-found-spec =

@@ -2,8 +2,9 @@
 //! code with the plain route, only the limits. Fit for small models only.
 //!
 //! Regions are met through a sample valuation each, in eighths of a unit;
-//! corners are the whole points of a region's closure; closed walks come from
-//! a transitive closure, marks, their rounds and heights from repeated sweeps;
+//! corners are the whole points of a region's closure; closed walks of steps come
+//! from a transitive closure, those of edges are gone one by one or all listed;
+//! marks, their rounds and heights come from repeated sweeps;
 //! trails and walks are compared as whole lists, and walks within a fringe
 //! lengthened step by step; least times are those of runs wait by wait; limits
 //! that blank stay fields mean, and spellings of a number and of a plan, are
@@ -11,6 +12,7 @@
 
 pub mod check;
 pub mod harm;
+pub mod joint;
 pub mod margin;
 pub mod read;
 pub mod regions;
@@ -37,13 +39,19 @@ impl Brute {
     }
 
     pub fn is_unsafe(&self) -> bool {
-        let marked = self.states.marked();
+        self.has_forbidden(&self.states.marked())
+    }
+
+    fn has_forbidden(&self, marked: &[bool]) -> bool {
         (0..marked.len()).any(|state| marked[state] && self.states.forbidden[state])
     }
 
     /// The numbers of the sheet we write for a safe model.
     pub fn sheet(&self) -> Vec<u32> {
-        let marked = self.states.marked();
+        self.sheet_of(&self.states.marked())
+    }
+
+    fn sheet_of(&self, marked: &[bool]) -> Vec<u32> {
         let heights = self.states.heights();
         let mut numbers = vec![1];
         for state in 0..marked.len() {
@@ -65,8 +73,12 @@ impl Brute {
         } else {
             self.sheet()
         };
-        numbers.into_iter().flat_map(shortest).collect()
+        spelled_out(numbers)
     }
+}
+
+fn spelled_out(numbers: Vec<u32>) -> Vec<u8> {
+    numbers.into_iter().flat_map(shortest).collect()
 }
 
 /// The shortest spelling: as many groups as the value has digits of base 128.

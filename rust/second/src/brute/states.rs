@@ -3,6 +3,7 @@
 
 use super::read::Plan;
 use super::regions::{NaiveRegions, UNIT};
+use std::ops::Range;
 
 /// A labelled step: where it leads, its kind (0 to 3), its edge if a jump.
 #[derive(Clone, Copy, Debug, PartialEq, Eq)]
@@ -138,13 +139,18 @@ impl States {
 
     /// The smallest set with the start that is closed under all steps.
     pub fn marked(&self) -> Vec<bool> {
+        self.closed_under(0..4)
+    }
+
+    /// The smallest set with the start that is closed under steps of these kinds.
+    pub fn closed_under(&self, kinds: Range<u32>) -> Vec<bool> {
         let mut marked = vec![false; self.list.len()];
         marked[self.start] = true;
         loop {
             let before = marked.clone();
             for state in 0..self.list.len() {
                 for label in &self.steps[state] {
-                    if marked[state] {
+                    if marked[state] && kinds.contains(&label.kind) {
                         marked[label.to] = true;
                     }
                 }

@@ -53,6 +53,13 @@ pub fn least_trail(states: &States) -> Vec<Label> {
     })
 }
 
+/// The least one of those without a touch.
+pub fn least_touchless_trail(states: &States) -> Vec<Label> {
+    least_list(states, states.start, 0, 0..3, |state| {
+        states.forbidden[state]
+    })
+}
+
 /// The least closed walk of time and jump steps from a state.
 pub fn least_walk(states: &States, home: usize) -> Vec<Label> {
     least_list(states, home, 1, 0..2, |state| state == home)

@@ -2,11 +2,12 @@
 
 use super::{listed, MOST};
 use crate::calls::{check_evidence, harm, judge, marks, rounds, sheet_margin, soonest};
+use crate::calls::{judge_joint, marks_joint, write_joint, Judgement};
 use crate::calls::{states_of, write_evidence, write_plan, Harm, Scratch, SheetMargin};
 use crate::margin::by_drawing;
 use crate::model::read_model;
 use crate::program::bytes_of_text;
-use crate::refusal::{Refusal, NEVER_THERE, OUTPUT_TOO_SHORT};
+use crate::refusal::{Refusal, NEVER_THERE, NO_JOINT_RESET, OUTPUT_TOO_SHORT};
 
 /// What the output holds at first.
 const DIRT: u8 = 7;
@@ -43,9 +44,12 @@ fn answer(model: &[u8], line: &str, length: usize) -> Result<String, String> {
     let lent = |k: usize| lent.get(k).map_or(length, |&length| length.min(MOST));
     let scratch = |k: usize| [k, k + 1, k + 2, k + 3].map(lent);
     Ok(match word {
-        "judge" => judge_answer(model, scratch(0)),
-        "marks" => marks_answer(model, scratch(1), lent(0)),
-        "write" => write_answer(model, scratch(1), lent(0)),
+        "judge" => judge_answer(model, judge(model, scratch(0))),
+        "marks" => marks_answer(model, marks, scratch(1), lent(0)),
+        "write" => write_answer(model, write_evidence, scratch(1), lent(0)),
+        "judge_joint" => judge_answer(model, judge_joint(model, scratch(0))),
+        "marks_joint" => marks_answer(model, marks_joint, scratch(1), lent(0)),
+        "write_joint" => write_answer(model, write_joint, scratch(1), lent(0)),
         "plan" => plan_answer(model, lent(0)),
         "margin" => margin_answer(model),
         "sheet_margin" => sheet_margin_answer(model, scratch(0)),
@@ -83,7 +87,7 @@ fn told(answer: Result<Vec<usize>, Refusal>) -> String {
 /// earlier, untouched."
 fn zeros<T>(model: &[u8], answer: &Result<T, Refusal>) -> String {
     let cleared = match answer {
-        Ok(_) | Err(OUTPUT_TOO_SHORT | NEVER_THERE) => {
+        Ok(_) | Err(OUTPUT_TOO_SHORT | NEVER_THERE | NO_JOINT_RESET) => {
             read_model(model).map_or(0, |model| states_of(&model))
         }
         Err(_) => 0,
@@ -91,24 +95,31 @@ fn zeros<T>(model: &[u8], answer: &Result<T, Refusal>) -> String {
     format!(", zero{}", format!(" {cleared}").repeat(4))
 }
 
-fn judge_answer(model: &[u8], scratch: Scratch) -> String {
-    let found = judge(model, scratch);
+/// A call that writes to the output.
+type Call<T> = fn(&[u8], Scratch, &mut [u8]) -> Result<T, Refusal>;
+
+fn judge_answer(model: &[u8], found: Result<Judgement, Refusal>) -> String {
     let zeros = zeros(model, &found);
     let values = found.map(|found| vec![found.is_unsafe.into(), found.states, found.count]);
     told(values) + &zeros
 }
 
-fn marks_answer(model: &[u8], scratch: Scratch, output: usize) -> String {
+fn marks_answer(model: &[u8], call: Call<usize>, scratch: Scratch, output: usize) -> String {
     let mut out = vec![DIRT; output];
-    let found = marks(model, scratch, &mut out);
+    let found = call(model, scratch, &mut out);
     let zeros = zeros(model, &found);
     let bytes: String = out.iter().map(u8::to_string).collect();
     told(found.map(|states| vec![states])) + &zeros + &shown(bytes)
 }
 
-fn write_answer(model: &[u8], scratch: Scratch, output: usize) -> String {
+fn write_answer(
+    model: &[u8],
+    call: Call<(bool, usize)>,
+    scratch: Scratch,
+    output: usize,
+) -> String {
     let mut out = vec![DIRT; output];
-    let found = write_evidence(model, scratch, &mut out);
+    let found = call(model, scratch, &mut out);
     let zeros = zeros(model, &found);
     let values = found.map(|(is_unsafe, bytes)| vec![is_unsafe.into(), bytes]);
     told(values) + &zeros + &shown(listed(&out))

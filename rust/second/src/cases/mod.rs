@@ -4,6 +4,7 @@
 mod answers;
 mod blanks;
 mod evidence;
+mod joint;
 mod opening;
 mod operations;
 mod padding;
@@ -40,6 +41,7 @@ pub fn cases() -> String {
     rounds::rounds(&mut text);
     soonest::soonest(&mut text);
     opening::opening(&mut text);
+    joint::joint(&mut text);
     text.lines
 }
 
