@@ -4,7 +4,6 @@ use native.Mathlib.Omega.{arith}
 use mathlib.Core.Path.{_≡_, refl, sym, ap, _∙_}
 use mathlib.Core.Bool.{Bool, true}
 use mathlib.Core.List.{List}
-use lib.ListN.{length}
 use lib.Dec.{ltb}
 use Rattle.theory.specs.System.{onClosedWalk}
 use Rattle.theory.specs.StateGraph.{systemOf}
@@ -34,8 +33,7 @@ module _ {m : Model} (ok : Lawful m) (touch : Bool) {heights distance : List ℕ
       record {
         heights-long = A .heights .long;
         marks-long = A .long;
-        heights = λ p b.
-            half _ _ _ (A .heights .are p b) (bit-le (onClosedWalk Y p)) ∙ sym (touch-height touch Y L p b);
+        heights = λ p b. half _ _ _ (A .heights .are p b) (bit-le (onClosedWalk Y p)) ∙ sym (touch-height touch Y L p b);
         marked = λ p b. A .marks p b ∙ (ap (ltb 0) (D .is p b) ∙ mark-marks (withTouch touch Y) (touch-laws touch Y L) p);
       }
 

@@ -68,7 +68,8 @@ room-next {p = p} f v a b h =
 
 -- ---- a state's number
 
-module _ {m : Model} (touch : Bool) {heights marks : List ℕ} (ok : Lawful m) (known : SheetData (withTouch touch (systemOfModel m)) heights marks) where
+module _ {m : Model} (touch : Bool) {heights marks : List ℕ} (ok : Lawful m)
+    (known : SheetData (withTouch touch (systemOfModel m)) heights marks) where
   abbrev Y : System
   Y = withTouch touch (systemOfModel m)
 
@@ -105,8 +106,8 @@ module _ {m : Model} (touch : Bool) {heights marks : List ℕ} (ok : Lawful m) (
       is-table sheet (length heights) (found heights marks) e (λ k b. h k (omega arith)) ∙ found-sheet (length heights) refl
 
   -- and spelled
-  pub all-laid : {o o₁ o₂ : List ℕ} {at r p : ℕ} → Lays o o₁ 0 at (spell 1) → Lays o₁ o₂ at r (spellAll (tab p (found heights marks))) → p ≡ length heights
-      → Lays o o₂ 0 r (spellAll (1 ∷ ourSheet Y))
+  pub all-laid : {o o₁ o₂ : List ℕ} {at r p : ℕ} → Lays o o₁ 0 at (spell 1) → Lays o₁ o₂ at r (spellAll (tab p (found heights marks)))
+      → p ≡ length heights → Lays o o₂ 0 r (spellAll (1 ∷ ourSheet Y))
   all-laid {p = p} a b e =
       lays-as (lays-then a b)
       (ap (λ (l : List ℕ). l ++ spellAll (tab p (found heights marks))) (sym (spell-one 1))

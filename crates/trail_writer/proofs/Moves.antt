@@ -346,33 +346,35 @@ module _ (m : Model) (ok : Lawful m) where
   -- ---- our trail, with touch steps or without
 
   module _ (touch : Bool) where
-    pub touch-path : pathNumbers m (trailStates (withTouch touch Y)) ≡ 2 ∷ trailNumbers (automatonOf m) (ourMoves (labelledWithTouch touch P))
-    unfolding pathNumbers ourMoves labelledWithTouch withTouch labelledOf
-    touch-path =
-        ap (λ (vs : List Move). 2 ∷ trailNumbers (automatonOf m) vs) (sym (touch-moves touch P (trailStates (withTouch touch Y)) (Y .start)))
+    abbrev Z : System
+    Z = withTouch touch Y
 
-    module _ (u : unsafe (withTouch touch Y) ≡ true) where
-      laws : Laws (withTouch touch Y)
+    pub touch-path : pathNumbers m (trailStates Z) ≡ 2 ∷ trailNumbers (automatonOf m) (ourMoves (labelledWithTouch touch P))
+    unfolding pathNumbers ourMoves labelledWithTouch withTouch labelledOf
+    touch-path = ap (λ (vs : List Move). 2 ∷ trailNumbers (automatonOf m) vs) (sym (touch-moves touch P (trailStates Z) (Y .start)))
+
+    module _ (u : unsafe Z ≡ true) where
+      laws : Laws Z
       laws = touch-laws touch Y (system-laws m ok)
 
-      some-trail : (l : List ℕ) × Trail (withTouch touch Y) l
-      some-trail = unsafe-trail (withTouch touch Y) laws (unsafe-is (withTouch touch Y) laws u)
+      some-trail : (l : List ℕ) × Trail Z l
+      some-trail = unsafe-trail Z laws (unsafe-is Z laws u)
 
-      pub touch-few : length (trailStates (withTouch touch Y)) < states m
+      pub touch-few : length (trailStates Z) < states m
       unfolding withTouch
-      touch-few =
-          omega (arith, trail-length (withTouch touch Y) laws, trail-steps-below (withTouch touch Y) laws (some-trail .0) (some-trail .1), size-states m)
+      touch-few = omega (arith, trail-length Z laws, trail-steps-below Z laws (some-trail .0) (some-trail .1), size-states m)
 
-      pub touch-leads : LeadsThrough m (Y .start) (trailStates (withTouch touch Y))
+      pub touch-leads : LeadsThrough m (Y .start) (trailStates Z)
       unfolding withTouch
       touch-leads =
-          let t = trail-passes (withTouch touch Y) laws (some-trail .0) (some-trail .1) in
+          let t = trail-passes Z laws (some-trail .0) (some-trail .1) in
           record {
             below = omega (arith, system-laws m ok .allowed-below (Y .start) (system-laws m ok .start-allowed), size-states m);
             end = t .0;
             walk = touch-walk touch Y (system-laws m ok) (t .1);
           }
 
+  -- with them
   module _ (u : unsafe Y ≡ true) where
     pub trail-few : length (trailStates Y) < states m
     unfolding withTouch

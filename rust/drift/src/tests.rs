@@ -174,6 +174,67 @@ fn least_times() {
     }
 }
 
+/// One clock: a loop that resets it at 2, and a way to a forbidden location that
+/// opens at 2. A touch saves a step, so the trail without one is longer.
+const LATE: [u8; 20] = [
+    1, 1, 2, 2, 2, 0, 0, 0, 1, 0, 0, 0, 1, 2, 2, 0, 1, 0, 2, 2,
+];
+const LATE_STATES: usize = 10;
+
+#[test]
+fn joint_resets() {
+    let mut buffers = Buffers::new(LATE_STATES);
+    let judgement = |count| Judgement {
+        verdict: Verdict::Unsafe,
+        states: LATE_STATES,
+        count,
+    };
+    assert_eq!(judge(&LATE, buffers.lend()), Ok(judgement(4)));
+    assert_eq!(judge_joint(&LATE, buffers.lend()), Ok(judgement(5)));
+    let mut out = [[DIRT; LATE_STATES]; 2];
+    let [full, joint] = &mut out;
+    assert_eq!(marks(&LATE, buffers.lend(), full), Ok(LATE_STATES));
+    assert_eq!(marks_joint(&LATE, buffers.lend(), joint), Ok(LATE_STATES));
+    assert_eq!(full, joint);
+    let trail = [2, 5, 0, 0, 0, 0, 1, 1];
+    let mut out = [DIRT; 10];
+    let written = write_joint(&LATE, buffers.lend(), &mut out).unwrap();
+    assert_eq!(out, [&trail[..], &[DIRT; 2]].concat()[..]);
+    assert_eq!(written.bytes, trail.len());
+    let checked = check_evidence(&LATE, &trail, buffers.lend());
+    assert_eq!(checked, Ok(Kind::Trail));
+}
+
+/// The loop plan's clocks are reset one by one. 8 comes before 17, and 9 after
+/// it; past 8 the scratch is cleared, and the output stays as it was.
+#[test]
+fn no_joint_reset() {
+    for (length, refusal, zeros) in [
+        (LOOP_STATES - 1, ScratchTooShort, 0),
+        (LOOP_STATES, NotJoint, LOOP_STATES),
+    ] {
+        let mut out = [DIRT; 5];
+        for call in 0..4 {
+            let mut scratch = dirty(length);
+            let lent = lend(&mut scratch);
+            let refused = match call {
+                0 => judge_joint(&LOOP, lent).map(drop),
+                1 => marks_joint(&LOOP, lent, &mut out).map(drop),
+                2 => write_joint(&LOOP, lent, &mut out).map(drop),
+                _ => write_joint(&LOOP, lent, &mut []).map(drop),
+            };
+            assert_eq!(refused, Err(refusal));
+            for slice in &scratch {
+                assert!(slice[..zeros].iter().all(|&number| number == 0));
+                assert!(slice[zeros..].iter().all(|&number| number == DIRT.into()));
+            }
+        }
+        assert_eq!(out, [DIRT; 5]);
+    }
+    let mut buffers = Buffers::new(LOOP_STATES);
+    assert_eq!(judge_joint(&UNRESET, buffers.lend()), Err(ClockUnreset));
+}
+
 /// The margins that the proved program prints; a plan with a loop that resets
 /// nothing is refused.
 #[test]

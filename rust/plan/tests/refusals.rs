@@ -268,3 +268,21 @@ fn which_rule_of_a_sheet() {
         Err("12: state 0 ('idle' at x=0) is lower than what a step leads to: state 1 ('idle' at 0<x<1)".to_string())
     );
 }
+
+/// Which loop has no edge that resets every clock, or that each has one.
+#[test]
+fn which_loop_without_a_joint_reset() {
+    let words = |name: &str| about(17, Ok(&example(name)), None);
+    assert_eq!(
+        words("loop"),
+        "here: none of edge 1 (one -> two), edge 2 (two -> one) resets every clock, and each of \
+         them can open\n"
+    );
+    let taken = "here: each loop of edges that can open has one that resets every clock, so the \
+                 quicker calls take this plan\n";
+    for name in ["tiny", "poll-mended"] {
+        assert_eq!(words(name), taken);
+    }
+    let flaw = decode(&[1, 1, 1, 1, 1, 0, 0, 0, 0, 0, 0, 0, 1]).unwrap_err();
+    assert!(about(17, Err(&flaw), None).contains("it is refused by 7"));
+}

@@ -68,7 +68,7 @@ returns c =
     let steps = c .before .before .before .before .before .before .before .before .before .before .before .before .before .before .before .before .before .before .fewest .result in
     let s = steps-by K r e steps (c .before .before .before .before .before .before .before .before .before .before .before .before .before .before .before .before .before .before .fewest .ensures) in
     let wrote = c .before .before .before .before .before .before .before .before .before .before .before .write-trail-for .ensures in
-    (c .verdict-with .ensures ∙ written-as touch m true _ _ (unsafe-by K r e steps s (c .before .before .before .before .before .before .before .before .before .before .before .before .before .before .before .before .before .if1 .taken)) (wrote .0), wrote .1)
+    (c .verdict-with .ensures ∙ written-as touch m true _ _ (unsafe-by K steps s (c .before .before .before .before .before .before .before .before .before .before .before .before .before .before .before .before .before .if1 .taken)) (wrote .0), wrote .1)
 
 write-sheet-for-requires : tie.Need-write-sheet-for-requires
 write-sheet-for-requires c κs =
@@ -80,7 +80,7 @@ write-sheet-for-requires c κs =
     let e = c .before .before .before .before .before .before .before .before .before .before .from-short .ensures ∙ c .before .before .before .before .before .before .before .before .before .before .before .count .ensures in
     let steps = c .before .before .before .before .before .before .before .fewest .result in
     let s = steps-by K r e steps (c .before .before .before .before .before .before .before .fewest .ensures) in
-    ((K .lawful, K .flow, start .pre .1), ((K .levelled .surveyed, scratch-of K), safe-by K r e steps s (c .before .before .before .before .before .before .if1 .left)))
+    ((K .lawful, K .flow, start .pre .1), ((K .levelled .surveyed, scratch-of K), safe-by K steps s (c .before .before .before .before .before .before .if1 .left)))
 
 verdict-with-requires-2 : tie.Need-verdict-with-requires-2
 verdict-with-requires-2 c κs = search needs
@@ -114,7 +114,7 @@ returns-2 c =
     let steps = c .before .before .before .before .before .before .before .before .before .before .before .before .before .before .before .before .before .before .before .before .before .fewest .result in
     let s = steps-by K r e steps (c .before .before .before .before .before .before .before .before .before .before .before .before .before .before .before .before .before .before .before .before .before .fewest .ensures) in
     let wrote = c .before .before .before .before .before .before .before .before .before .before .before .before .before .write-sheet-for .ensures in
-    (c .verdict-with2 .ensures ∙ written-as touch m false _ _ (safe-by K r e steps s (c .before .before .before .before .before .before .before .before .before .before .before .before .before .before .before .before .before .before .before .before .if1 .left)) (wrote .0), wrote .1)
+    (c .verdict-with2 .ensures ∙ written-as touch m false _ _ (safe-by K steps s (c .before .before .before .before .before .before .before .before .before .before .before .before .before .before .before .before .before .before .before .before .if1 .left)) (wrote .0), wrote .1)
 
 pub write-found-spec : {M : Type 1} → statement M
 write-found-spec =

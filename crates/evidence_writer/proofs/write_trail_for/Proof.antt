@@ -25,21 +25,19 @@ trail-states-requires : tie.Need-trail-states-requires
 trail-states-requires c κs =
     let start = c .before .before .before .before .before .before .before .before .before .before .before .before .before .before .before .before in
     let K = start .pre .0 in
-    let e = start .pre .1 .0 in
-    let s = start .pre .1 .1 in
-    rw (c .before .before .before .before .before .from-byte .ensures) (trail-asked K (start .args .r) e (start .args .steps) s (start .pre .1 .2))
+    rw (c .before .before .before .before .before .from-byte .ensures) (trail-asked K (start .args .r) (start .pre .1 .0) (start .args .steps) (start .pre .1 .2))
 
 slice-reshare-prefix-write-trail : tie.Need-slice-reshare-prefix-write-trail
 slice-reshare-prefix-write-trail c =
     let start = c .before .before .before .before .before .before .before .before .before .before .before .before .before .before .before .before .before .before .before .before .before in
     let K = start .pre .0 in
-    omega (arith, c .before .before .before .before .trail-states .kept .1 .1 .1 .1 .1 .1 .1 .1 .1 .1 .1 .0, K .path-long, start .pre .1 .2, distance-long K)
+    omega (arith, c .before .before .before .before .trail-states .kept .1 .1 .1 .1 .1 .1 .1 .1 .1 .1 .1 .0, K .path-long, start .pre .1 .2, distance-long (K .levelled .surveyed))
 
 slice-aggregate-write-trail : tie.Need-slice-aggregate-write-trail
 slice-aggregate-write-trail c =
     let start = c .before .before .before .before .before .before .before .before .before .before .before .before .before .before .before .before .before .before .before .before .before .before in
     let K = start .pre .0 in
-    sym (length-take-le _ _ (omega (arith, c .before .before .before .before .before .trail-states .kept .1 .1 .1 .1 .1 .1 .1 .1 .1 .1 .1 .0, K .path-long, start .pre .1 .2, distance-long K)))
+    sym (length-take-le _ _ (omega (arith, c .before .before .before .before .before .trail-states .kept .1 .1 .1 .1 .1 .1 .1 .1 .1 .1 .1 .0, K .path-long, start .pre .1 .2, distance-long (K .levelled .surveyed))))
 
 write-trail-requires : tie.Need-write-trail-requires
 write-trail-requires c κs =
@@ -53,10 +51,10 @@ write-trail-requires c κs =
         listed = K .listed;
         flow = K .flow;
         level-long = K .levelled .surveyed .heights .long;
-        queue-long = states .kept .1 .1 .1 .1 .1 .1 .1 .1 .1 .0 ∙ distance-long K;
+        queue-long = states .kept .1 .1 .1 .1 .1 .1 .1 .1 .1 .0 ∙ distance-long (K .levelled .surveyed);
         walk-long = K .queue-long;
       },
-      unsafe-by K (start .args .r) e (start .args .steps) s (start .pre .1 .2),
+      unsafe-by K (start .args .steps) s (start .pre .1 .2),
       states .ensures .1 (withTouch (start .args .touch) (systemOfModel (start .args .m))) (rw (c .before .before .before .before .before .before .before .before .before .before .before .before .before .before .before .from-byte .ensures) (trail-told K (start .args .r) e (start .args .steps) s)),
     )
 

@@ -104,7 +104,7 @@ trail-delay-requires c κs =
       },
       found-unsafe K r e steps f (c .before .before .before .before .before .before .before .before .before .before .before .before .before .before .before .before .if1 .taken),
       states .ensures .1 (withTouch true (systemOfModel m)) (rw (c .before .before .before .before .before .before .before .before .before .before .before .before .before .before .from-byte .ensures) (trail-told K r e steps (steps-by K r e steps f)))
-      ∙ ap trailStates (with-touch (systemOfModel m)),
+          ∙ ap trailStates (with-touch (systemOfModel m)),
     )
 
 same-length-2 : tie.Need-same-length-2
@@ -152,8 +152,7 @@ margin-of-requires c κs =
     let r = c .before .before .before .before .before .before .before .before .before .before .from-short .result in
     let e = c .before .before .before .before .before .before .before .before .before .before .from-short .ensures ∙ c .before .before .before .before .before .before .before .before .before .before .before .count .ensures in
     let steps = c .before .before .before .before .before .before .before .fewest .result in
-    let f = c .before .before .before .before .before .before .before .fewest .ensures in
-    (
+    let f = c .before .before .before .before .before .before .before .fewest .ensures in (
       (K .lawful, K .listed, record { flags = start .pre .1; flow = K .flow }, K .by-region .linked refl),
       ((K .levelled .surveyed, K .queue-long, K .path-long), found-safe K r e steps f (c .before .before .before .before .before .before .if1 .left)),
     )

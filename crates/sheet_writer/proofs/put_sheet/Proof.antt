@@ -53,7 +53,8 @@ put-requires-2 c κs =
     let loop = c .before .before .before .before .before .loop in
     let first = c .before .before .before .before .before .before .before .before .put in
     let start = c .before .before .before .before .before .before .before .before .before .before .before .before .before in
-    (omega (arith, c .state-number .ensures .1), room-next _ _ (first .ensures) (loop .inv .1) (omega (arith, few-states (start .args .touch) (start .pre .0) (start .pre .1))))
+    let few = few-states (start .args .touch) (start .pre .0) (start .pre .1) in
+    (omega (arith, c .state-number .ensures .1), room-next _ _ (first .ensures) (loop .inv .1) (omega arith))
 
 add-p : tie.Need-add-p Inv-loop μ-loop
 add-p c = search needs

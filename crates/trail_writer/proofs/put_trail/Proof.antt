@@ -81,7 +81,6 @@ returns c =
     let m = start .args .m in
     let R = start .pre .0 in
     let ok = R .lawful in
-    let few = start .pre .2 in
     let first = start-is m ok _ (c .before .before .before .before .before .before .before .before .before .before .before .before .before .before .before .before .before .before .before .before .before .count .ensures) in
     lays-as (lays-then (c .before .before .before .before .before .before .before .before .before .before .before .before .before .before .before .before .before .before .before .put .ensures) (lays-then (c .before .before .before .before .before .before .before .before .before .before .before .before .before .before .before .put2 .ensures) (c .before .before .before .before .before .before .before .before .put-moves .ensures)))
     (trail-as m ok _ _ first)
