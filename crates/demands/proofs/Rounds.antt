@@ -1,6 +1,7 @@
 -- Request (d) of 02: "Marking goes on after it is done." From bytes: `bytes` spell an accepted model. That the number which the search counts is the
 -- number of rounds stands in its contracts (`marking::distances`, `survey::search`, `survey::survey`).
 use mathlib.Core.Path.{_≡_, sym, ap, subst, _∙_}
+use mathlib.Core.Bool.{true}
 use mathlib.Core.Logic.{_↔_}
 use mathlib.Core.List.{List}
 use Prim.Native.Nat.{ℕ, suc, _+_, _-_, _≤_, _<_}
@@ -17,6 +18,8 @@ use Rattle.theory.specs.Levels.{mark}
 use Rattle.theory.specs.Rounds.{MarkedAfter, NewAfter, StepOn, startOn, rounds}
 use Rattle.theory.proofs.Below.{counted, counted-once, top-ge}
 use Rattle.theory.proofs.Levels.{mark-marks}
+use Rattle.theory.specs.WithoutTouch.{withTouch}
+use Rattle.theory.proofs.WithoutTouch.{with-touch}
 use Rattle.theory.proofs.Rounds.{new-once, new-from, rounds-few}
 use Rattle.model.specs.declared.Model.{Model}
 use Rattle.model.specs.Model.{Lawful}
@@ -26,6 +29,7 @@ use Rattle.graph.specs.Plan.{automatonOf, systemOfModel}
 use Rattle.graph.proofs.Plan.{size-states}
 use Rattle.graph.proofs.Models.{system-laws, marks-states, rounds-law, rounds-mark, new-law}
 use Rattle.search.specs.Queue.{reachedCount}
+use Rattle.marking.specs.Tables.{Distances}
 use Rattle.marking.proofs.Steps.{count-marks}
 use Rattle.survey.specs.Surveyed.{Levelled}
 use Rattle.call.specs.Call.{modelOf, statesOf}
@@ -83,18 +87,24 @@ module _ (bytes : List ℕ) (e : readModel bytes .refusal ≡ 0) where
   plan-once j k s = new-once
 
   -- What the search leaves, by its contracts: the marked states in `queue`, round by round, each once.
-  module _ (hs ds queue : List ℕ) (r : ℕ) (F : Levelled m hs ds queue) (is : r ≡ rounds Y) where
+  module _ (hs ds queue : List ℕ) (r : ℕ) (F : Levelled true m hs ds queue) (told : r ≡ rounds (withTouch true Y)) where
     abbrev n : ℕ
     n = reachedCount ds
 
+    found : Distances Y ds
+    found = subst (λ (Z : System). Distances Z ds) (with-touch Y) (F .surveyed .distances)
+
+    is : r ≡ rounds Y
+    is = told ∙ ap rounds (with-touch Y)
+
     many : n ≡ count S (marks Y)
-    many = count-marks Y (system-laws m ok) ds (F .surveyed .distances) ∙ marked-many
+    many = count-marks Y (system-laws m ok) ds found ∙ marked-many
 
     long : length ds ≡ S
-    long = F .surveyed .distances .long ∙ size-states m
+    long = found .long ∙ size-states m
 
     level : (p : ℕ) → p < S → getD ds p 0 ≡ mark (Y .size) (step Y) (Y .start) p
-    level p h = F .surveyed .distances .is p (omega (arith, size-states m))
+    level p h = found .is p (omega (arith, size-states m))
 
     at : (i : ℕ) → i < n → getD queue i 0 < S
     at i h = omega (arith, F .order .fits .below i h, long)

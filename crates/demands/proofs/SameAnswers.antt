@@ -1,10 +1,12 @@
 -- The operations see a model's bytes only by what is read from them.
 use mathlib.Core.Path.{_≡_, ap, ap₂}
-use mathlib.Core.Bool.{cond}
+use mathlib.Core.Bool.{false, cond}
 use mathlib.Core.List.{List, [], _∷_}
 use Prim.Native.Nat.{ℕ}
 use lib.Dec.{eqb}
+use Rattle.theory.specs.WithoutTouch.{withoutTouch}
 use Rattle.number.specs.Answer.{answer}
+use Rattle.spelling.specs.Lays.{filled}
 use Rattle.spelling.specs.Calls.{bytesAnswer, bytesOutput}
 use Rattle.model.specs.declared.Model.{Model}
 use Rattle.parser.specs.declared.Reading.{Reading}
@@ -14,13 +16,17 @@ use Rattle.graph.specs.Plan.{automatonOf, systemOfModel}
 use Rattle.graph.specs.States.{states}
 use Rattle.robust.specs.Margin.{margin}
 use Rattle.evidence.specs.Evidence.{checked}
-use Rattle.evidence_writer.specs.Written.{evidenceIn, writtenFor}
+use Rattle.evidence_writer.specs.Written.{evidenceIn, writtenFor, evidenceBy, writtenBy}
 use Rattle.call.specs.Call.{modelOf, enough, refusal}
 use Rattle.call.specs.Scratch.{cleared, left}
+use Rattle.call.specs.Joint.{disjoint, jointRefusal}
 use Rattle.op_judge.specs.Judge.{verdict, judged}
 use Rattle.op_marks.specs.Marks.{short, marksRefusal, marked, marksIn, output}
 use Rattle.op_check.specs.Check.{evidenceAnswer, checkAnswer}
 use Rattle.op_write.specs.Write.{writtenAnswer, writeAnswer, writeOutput}
+use Rattle.op_judge_joint.specs.JudgeJoint.{jointJudged}
+use Rattle.op_marks_joint.specs.MarksJoint.{jointMarksRefusal, jointMarked, jointOutput}
+use Rattle.op_write_joint.specs.WriteJoint.{jointWriteAnswer, jointWriteOutput}
 use Rattle.op_plan.specs.Plan.{planAnswer, planOutput}
 use Rattle.op_margin.specs.Margin.{marginAnswer}
 use Rattle.op_sheet_margin.specs.SheetMargin.{boundValues, sheetMarginAnswer}
@@ -40,16 +46,26 @@ module _ (bs cs : List ℕ) where
     seen : {A : Type 0} (f : ℕ → Model → A) (lent : List ℕ) → f (refusal bs lent) (modelOf bs) ≡ f (refusal cs lent) (modelOf cs)
     seen f lent = ap₂ f (refused lent) m
 
+    -- and of the refusal of the calls for plans with a joint reset
+    seen-joint : {A : Type 0} (f : ℕ → Model → A) (lent : List ℕ) → f (jointRefusal bs lent) (modelOf bs) ≡ f (jointRefusal cs lent) (modelOf cs)
+    unfolding jointRefusal
+    seen-joint f = seen (λ k n. f (cond (eqb k 0) (disjoint n) k) n)
+
     pub same-timed : SameTimed bs cs
-    unfolding judged marksRefusal marked output checkAnswer writeAnswer writeOutput marginAnswer sheetMarginAnswer harmAnswer soonestRefusal soonestAnswer left
+    unfolding jointJudged jointMarksRefusal jointMarked jointOutput jointWriteAnswer jointWriteOutput judged marksRefusal marked output checkAnswer writeAnswer writeOutput marginAnswer sheetMarginAnswer harmAnswer soonestRefusal soonestAnswer left
     same-timed =
         record {
           judge = seen (λ k n. answer k (verdict (systemOfModel n)));
           marks = λ lent room. seen (λ k n. answer (cond (eqb k 0) (short room n) k) (states n ∷ [])) lent;
-          marks-output = λ lent out. seen (λ k n. cond (eqb k 0) (marksIn n out) out) lent;
+          marks-output = λ lent out. seen (λ k n. cond (eqb k 0) (marksIn (systemOfModel n) out) out) lent;
           check = λ evidence. seen (λ k n. cond (eqb k 0) (evidenceAnswer (checked n evidence)) (answer k []));
           write = λ lent room. seen (λ k n. cond (eqb k 0) (writtenAnswer (writtenFor n room)) (answer k [])) lent;
           write-output = λ lent out. seen (λ k n. cond (eqb k 0) (evidenceIn n out) out) lent;
+          judge-joint = seen-joint (λ k n. answer k (verdict (withoutTouch (systemOfModel n))));
+          marks-joint = λ lent room. seen-joint (λ k n. answer (cond (eqb k 0) (short room n) k) (states n ∷ [])) lent;
+          marks-joint-output = λ lent out. seen-joint (λ k n. cond (eqb k 0) (marksIn (withoutTouch (systemOfModel n)) out) out) lent;
+          write-joint = λ lent room. seen-joint (λ k n. cond (eqb k 0) (writtenAnswer (writtenBy false n room)) (answer k [])) lent;
+          write-joint-output = λ lent out. seen-joint (λ k n. cond (eqb k 0) (filled (evidenceBy false n) out) out) lent;
           margin = ap₂ (λ (k : ℕ) (n : Model). answer k (states n ∷ margin (automatonOf n) (n .locations) ∷ [])) r m;
           sheet-margin = seen (λ k n. answer k (boundValues n));
           harm = seen (λ k n. answer k (harmValues n));

@@ -7,6 +7,9 @@ use Rattle.op_judge.specs.Judge.{judged}
 use Rattle.op_marks.specs.Marks.{marked, output}
 use Rattle.op_check.specs.Check.{checkAnswer}
 use Rattle.op_write.specs.Write.{writeAnswer, writeOutput}
+use Rattle.op_judge_joint.specs.JudgeJoint.{jointJudged}
+use Rattle.op_marks_joint.specs.MarksJoint.{jointMarked, jointOutput}
+use Rattle.op_write_joint.specs.WriteJoint.{jointWriteAnswer, jointWriteOutput}
 use Rattle.op_plan.specs.Plan.{planAnswer, planOutput}
 use Rattle.op_margin.specs.Margin.{marginAnswer}
 use Rattle.op_sheet_margin.specs.SheetMargin.{sheetMarginAnswer}
@@ -21,6 +24,11 @@ pub record SameTimed (bs cs : List ℕ) : Type 0 where
   pub check : (evidence lent : List ℕ) → checkAnswer bs evidence lent ≡ checkAnswer cs evidence lent
   pub write : (lent : List ℕ) (room : ℕ) → writeAnswer bs lent room ≡ writeAnswer cs lent room
   pub write-output : (lent out : List ℕ) → writeOutput bs lent out ≡ writeOutput cs lent out
+  pub judge-joint : (lent : List ℕ) → jointJudged bs lent ≡ jointJudged cs lent
+  pub marks-joint : (lent : List ℕ) (room : ℕ) → jointMarked bs lent room ≡ jointMarked cs lent room
+  pub marks-joint-output : (lent out : List ℕ) → jointOutput bs lent out ≡ jointOutput cs lent out
+  pub write-joint : (lent : List ℕ) (room : ℕ) → jointWriteAnswer bs lent room ≡ jointWriteAnswer cs lent room
+  pub write-joint-output : (lent out : List ℕ) → jointWriteOutput bs lent out ≡ jointWriteOutput cs lent out
   pub margin : marginAnswer bs ≡ marginAnswer cs
   pub sheet-margin : (lent : List ℕ) → sheetMarginAnswer bs lent ≡ sheetMarginAnswer cs lent
   pub harm : (lent : List ℕ) → harmAnswer bs lent ≡ harmAnswer cs lent

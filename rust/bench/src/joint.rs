@@ -19,18 +19,23 @@ pub fn print_joint() {
     println!();
     println!("plans with a joint reset: microseconds of the quicker call; as a part of the full");
     println!("one's, the mean and the most of all plans; and of the second checker's quicker one");
-    let columns = CALLS.map(|call| {
-        format!(
-            " | {call:>9} {:>6} {:>6} {:>6}",
-            "full", "most", "second"
-        )
-    });
-    println!("{:>7} {:>6} {:>3}{}", "states", "class", "", columns.concat());
+    let columns =
+        CALLS.map(|call| format!(" | {call:>9} {:>6} {:>6} {:>6}", "full", "most", "second"));
+    println!(
+        "{:>7} {:>6} {:>3}{}",
+        "states",
+        "class",
+        "",
+        columns.concat()
+    );
     for size in SMALL.into_iter().chain(SIZES) {
         let plans: Vec<_> = (0..4 * MODELS).map(|seed| plan(size, seed)).collect();
         for is_unsafe in [false, true] {
             let of_class = plans.iter().filter(|plan| plan.1 == is_unsafe);
-            let models: Vec<_> = of_class.map(|plan| &plan.0[..]).take(MODELS as usize).collect();
+            let models: Vec<_> = of_class
+                .map(|plan| &plan.0[..])
+                .take(MODELS as usize)
+                .collect();
             if !models.is_empty() {
                 print_line(size, is_unsafe, &models);
             }
@@ -44,7 +49,10 @@ fn plan(size: Size, seed: u64) -> (Vec<u8>, bool) {
     let class = [Class::Safe, Class::Plain][seed as usize % 2];
     let model = match (locations, class) {
         (1, class) => alone(size, matches!(class, Class::Plain)),
-        (_, class) => jointly(&generate_sized(seed, clocks, ceiling.into(), locations, class), size),
+        (_, class) => jointly(
+            &generate_sized(seed, clocks, ceiling.into(), locations, class),
+            size,
+        ),
     };
     let states = states_of(size);
     let judged = second::judge_joint(&model, [states; 4]).expect("a joint reset");
@@ -73,9 +81,16 @@ fn jointly(model: &[u8], (clocks, _, locations): Size) -> Vec<u8> {
 fn print_line(size: Size, is_unsafe: bool, models: &[&[u8]]) {
     let states = states_of(size);
     let mut buffers = Buffers::new(states);
-    let times: Vec<Times> = models.iter().map(|model| times(&mut buffers, model, states)).collect();
+    let times: Vec<Times> = models
+        .iter()
+        .map(|model| times(&mut buffers, model, states))
+        .collect();
     let columns = [0, 1, 2].map(|call| {
-        let micros = |at: usize| times.iter().map(move |times| times[call][at].as_secs_f64() * 1e6);
+        let micros = |at: usize| {
+            times
+                .iter()
+                .map(move |times| times[call][at].as_secs_f64() * 1e6)
+        };
         let [ours, full, second] = [0, 1, 2].map(|at| micros(at).sum::<f64>());
         let parts = micros(0).zip(micros(1)).map(|(ours, full)| ours / full);
         let most = parts.fold(0.0, f64::max);
@@ -87,7 +102,11 @@ fn print_line(size: Size, is_unsafe: bool, models: &[&[u8]]) {
         )
     });
     let class = if is_unsafe { "unsafe" } else { "safe" };
-    println!("{states:>7} {class:>6} {:>3}{}", models.len(), columns.concat());
+    println!(
+        "{states:>7} {class:>6} {:>3}{}",
+        models.len(),
+        columns.concat()
+    );
 }
 
 fn times(buffers: &mut Buffers, model: &[u8], states: usize) -> Times {
@@ -96,23 +115,28 @@ fn times(buffers: &mut Buffers, model: &[u8], states: usize) -> Times {
     [
         turns(
             buffers,
-            |buffers| drop(black_box(buffers.judge_joint(model))),
-            |buffers| drop(black_box(buffers.judge(model))),
-            || drop(black_box(second::judge_joint(model, lengths))),
+            |buffers| used(buffers.judge_joint(model)),
+            |buffers| used(buffers.judge(model)),
+            || used(second::judge_joint(model, lengths)),
         ),
         turns(
             buffers,
-            |buffers| drop(black_box(buffers.marks_joint(model))),
-            |buffers| drop(black_box(buffers.marks(model))),
-            || drop(black_box(second::marks_joint(model, lengths, &mut output))),
+            |buffers| used(buffers.marks_joint(model)),
+            |buffers| used(buffers.marks(model)),
+            || used(second::marks_joint(model, lengths, &mut output)),
         ),
         turns(
             buffers,
-            |buffers| drop(black_box(buffers.evidence_joint(model))),
-            |buffers| drop(black_box(buffers.evidence(model))),
-            || drop(black_box(second::write_joint(model, lengths, &mut output))),
+            |buffers| used(buffers.evidence_joint(model)),
+            |buffers| used(buffers.evidence(model)),
+            || used(second::write_joint(model, lengths, &mut output)),
         ),
     ]
+}
+
+/// An answer that the compiler must not leave out.
+fn used<T>(answer: T) {
+    black_box(answer);
 }
 
 /// The fastest time of each of three runs, taken in turns.

@@ -16,9 +16,9 @@ pub fn joint_alike(
     states: usize,
     tally: &mut Tally,
 ) -> Result<(), String> {
-    judge_alike(Judge::Joint, model, &Lent::near(random, states))?;
+    judge_alike(Judge::Joint, model, &Lent::near(random, states))?.ok();
     let (lent, room) = (Lent::near(random, states), length_near(random, states));
-    marks_alike(Judge::Joint, model, &lent, room, random)?;
+    marks_alike(Judge::Joint, model, &lent, room, random)?.ok();
     let enough = Lent::enough(random, states);
     let judged = judge_alike(Judge::Joint, model, &enough)?;
     let full = judge_alike(Judge::Full, model, &enough)?;

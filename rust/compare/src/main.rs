@@ -129,7 +129,8 @@ fn agree(
         .map_err(|what| about_model(format!("other mark: {what}")))?;
     let lent = Lent::near(random, states);
     let room = length_near(random, states);
-    marks_alike(Judge::Full, model, &lent, room, random).map_err(about_model)?;
+    let marked = marks_alike(Judge::Full, model, &lent, room, random);
+    marked.map_err(about_model)?.ok();
     joint_alike(model, random, states, tally)
         .map_err(|what| about_model(format!("joint: {what}")))?;
     let (asked, pieces) = pieces(model, random, others);
@@ -170,7 +171,8 @@ fn answered(
     tally: &mut Tally,
 ) -> Result<(), String> {
     let named = |name: &'static str| move |what: String| format!("{name}: {what}");
-    let judged = judge_alike(Judge::Full, model, &Lent::near(random, states)).map_err(named("judge"))?;
+    let judged =
+        judge_alike(Judge::Full, model, &Lent::near(random, states)).map_err(named("judge"))?;
     tally.judged(&judged);
     let lent = Lent::near(random, states);
     tally.margin(&sheet_margin_alike(model, &lent).map_err(named("margin"))?);

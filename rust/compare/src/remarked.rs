@@ -22,11 +22,19 @@ pub fn remarked_alike(
         return Ok(());
     };
     let other = with_mark(model, CEILING_MARK + EDGES_MARK - mark).expect("an accepted plan");
-    let verdicts = [model, &other].map(|plan| judge_alike(Judge::Full, plan, &Lent::enough(random, states)));
+    let verdicts =
+        [model, &other].map(|plan| judge_alike(Judge::Full, plan, &Lent::enough(random, states)));
     let [one, two] = verdicts;
     let is_unsafe = |judged: Result<Judgement, u8>| judged.map(|judged| judged.is_unsafe);
     tally.remarked(mark, is_unsafe(one?), is_unsafe(two?));
-    marks_alike(Judge::Full, &other, &Lent::near(random, states), states, random)?;
+    marks_alike(
+        Judge::Full,
+        &other,
+        &Lent::near(random, states),
+        states,
+        random,
+    )?
+    .ok();
     tally.shortened(&other, &plan_alike(&other, other.len(), random)?);
     for (written, asked) in [(model, &other[..]), (&other[..], model)] {
         let lent = Lent::enough(random, states);

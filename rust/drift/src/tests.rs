@@ -176,9 +176,7 @@ fn least_times() {
 
 /// One clock: a loop that resets it at 2, and a way to a forbidden location that
 /// opens at 2. A touch saves a step, so the trail without one is longer.
-const LATE: [u8; 20] = [
-    1, 1, 2, 2, 2, 0, 0, 0, 1, 0, 0, 0, 1, 2, 2, 0, 1, 0, 2, 2,
-];
+const LATE: [u8; 20] = [1, 1, 2, 2, 2, 0, 0, 0, 1, 0, 0, 0, 1, 2, 2, 0, 1, 0, 2, 2];
 const LATE_STATES: usize = 10;
 
 #[test]

@@ -117,7 +117,11 @@ mod tests {
     #[test]
     fn loops_without_a_joint_reset() {
         let there = |second: u8, third: u8| {
-            let edges = [edge(0, 1, 1, 0), edge(1, 0, second, 0), edge(1, 1, 3, third)];
+            let edges = [
+                edge(0, 1, 1, 0),
+                edge(1, 0, second, 0),
+                edge(1, 1, 3, third),
+            ];
             disjoint_loops(&plan(&[2, 1], &edges))
         };
         assert_eq!(there(2, 0), [vec![0, 1]]);
