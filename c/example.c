@@ -1,6 +1,6 @@
-/* Judges the loop plan of document 01, writes its evidence, checks that, reads
- * it number by number, and asks how soon drift does harm and how soon perfect
- * clocks get to each location.
+/* Judges the loop plan of document 01, asks the quicker judge, writes the
+ * plan's evidence, checks that, reads it number by number, and asks how soon
+ * drift does harm and how soon perfect clocks get to each location.
  *
  *     cc -I c -o target/example c/example.c target/staticlib/libdrift_c.a
  */
@@ -46,6 +46,16 @@ static void judge(void)
     printf("verdict %s\n", is_unsafe ? "unsafe" : "safe");
     printf("states %zu\n", drift_states(answer));
     printf("%s %zu\n", is_unsafe ? "steps" : "in", drift_count(answer));
+}
+
+/* The quicker judge takes plans with a joint reset; this one resets its clocks
+ * one by one. */
+static void judge_joint(void)
+{
+    uint64_t answer = drift_judge_joint(
+        plan, sizeof plan, s1, STATES, s2, STATES, s3, STATES, s4, STATES);
+    int is_joint = drift_number_of(answer) != DRIFT_NOT_JOINT;
+    printf("joint reset %s\n", is_joint ? "yes" : "no");
 }
 
 /* The number of bytes written. */
@@ -107,6 +117,7 @@ int main(void)
 {
     size_t length;
     judge();
+    judge_joint();
     length = write_evidence();
     check(length);
     read_numbers(length);

@@ -1,6 +1,6 @@
 -- Request (g) of 02: "A quicker judge shall take just those plans in which each closed walk of edges, counted as under (f), has an edge resetting every
 -- clock. For them the marked set is to be shown equal to the smallest set that holds the start and is closed under time, jump and face", from bytes.
-use mathlib.Core.Path.{_≡_, refl, sym, ap, ap₂, _∙_}
+use mathlib.Core.Path.{_≡_, refl, sym, ap, _∙_}
 use mathlib.Core.Bool.{Bool, true, false, cond, true≢false, false≢true}
 use mathlib.Core.Logic.{_↔_, _⊎_, inl, inr}
 use mathlib.Core.List.{List, [], _∷_, _++_}
@@ -9,13 +9,12 @@ use native.Mathlib.Omega.{arith}
 use native.Mathlib.Decide.{ℕ-discrete}
 use lib.ListN.{length, getD, take, drop}
 use lib.Dec.{eqb}
-use Rattle.theory.specs.Below.{bit, tab, count}
+use Rattle.theory.specs.Below.{bit, count}
 use Rattle.theory.specs.Lists.{every}
 use Rattle.theory.specs.Walk.{Lex}
 use Rattle.theory.specs.System.{System, Laws}
-use Rattle.theory.specs.Marked.{Unsafe, marks, unsafe}
+use Rattle.theory.specs.Marked.{marks, unsafe}
 use Rattle.theory.specs.Trail.{Trail, trailStates}
-use Rattle.theory.specs.Sheet.{ourSheet}
 use Rattle.theory.specs.Labels.{LabelledSystem}
 use Rattle.theory.specs.Replay.{Move, flow-by, face-to, touch-to, passes, movesAlong, ourMoves, trailKey}
 use Rattle.theory.specs.WithoutTouch.{withTouch, withoutTouch, labelledWithTouch, labelledWithoutTouch, noTouch}
@@ -28,7 +27,7 @@ use Rattle.theory.proofs.Marked.{unsafe-is}
 use Rattle.theory.proofs.Trail.{unsafe-trail, trail-length, trail-steps-below}
 use Rattle.theory.proofs.Replay.{passes-law, our-moves-length}
 use Rattle.theory.proofs.WithoutTouch.{touch-laws, touch-labelled, touch-moves, without-ours, without-least}
-use Rattle.number.specs.Answer.{Answer, answer}
+use Rattle.number.specs.Answer.{answer}
 use Rattle.number.specs.Number.{spellAll}
 use Rattle.model.specs.declared.Model.{Model}
 use Rattle.model.specs.Model.{Lawful}
@@ -55,13 +54,13 @@ use Rattle.evidence.proofs.Ours.{path-trail}
 use Rattle.spelling.specs.Lays.{filled}
 use Rattle.evidence_writer.specs.Written.{evidenceIn, verdictWith, writtenFor, evidenceBy, writtenBy}
 use Rattle.call.specs.Call.{modelOf, statesOf, enough, refusal}
-use Rattle.call.specs.Joint.{disjoint, jointRefusal}
+use Rattle.call.specs.Joint.{jointRefusal}
 use Rattle.call.proofs.Calls.{taken-in, accepted}
 use Rattle.call.proofs.Joint.{joint-refused, joint-past}
 use Rattle.op_judge.specs.Judge.{countOf, verdict, judged}
 use Rattle.op_judge.proofs.Judged.{judge-done}
 use Rattle.op_judge_joint.specs.JudgeJoint.{jointJudged}
-use Rattle.op_marks.specs.Marks.{short, marksRefusal, marked, marksOf, marksIn, output}
+use Rattle.op_marks.specs.Marks.{marksRefusal, marked, marksOf, marksIn, output}
 use Rattle.op_marks_joint.specs.MarksJoint.{jointMarksRefusal, jointMarked, jointOutput}
 use Rattle.op_check.specs.Check.{checkAnswer}
 use Rattle.op_write.specs.Write.{writtenAnswer, writeAnswer, writeOutput}

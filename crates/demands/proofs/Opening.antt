@@ -11,11 +11,10 @@ use borrow.Author.Tests.{ne-eqb}
 use Rattle.theory.specs.Automaton.{Edge, Run}
 use Rattle.theory.proofs.Below.{either}
 use Rattle.model.specs.declared.Model.{Model}
-use Rattle.model.specs.Model.{targetOf}
 use Rattle.parser.specs.declared.Reading.{Reading}
 use Rattle.parser.specs.Parse.{parseModel}
 use Rattle.edge_walks.specs.Opening.{OpensAlone, opensAlone}
-use Rattle.edge_walks.specs.Cycle.{DrawingWalk, here, step, Counts, LeavesUnreset}
+use Rattle.edge_walks.specs.Cycle.{DrawingWalk, Counts, LeavesUnreset}
 use Rattle.edge_walks.proofs.Opens.{opens-law}
 use Rattle.plan_reader.specs.Accept.{readModel}
 use Rattle.plan_reader.proofs.Accepted.{refused-7-law}

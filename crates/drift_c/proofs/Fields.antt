@@ -84,8 +84,8 @@ judge-fields bytes lent =
     record {
       fit = λ i. cond-ind (λ (a : Answer). value a i ≤ maxField) (eqb (refusal bytes lent) 0)
           (λ t.
-              let ok = accepted bytes lent (eqb-true _ _ t) in
-              verdict-small (systemOfModel (modelOf bytes)) (system-laws (modelOf bytes) ok) (size-few (modelOf bytes) ok) i)
+          let ok = accepted bytes lent (eqb-true _ _ t) in
+          verdict-small (systemOfModel (modelOf bytes)) (system-laws (modelOf bytes) ok) (size-few (modelOf bytes) ok) i)
           (λ _. zero-le);
     }
 
@@ -101,9 +101,9 @@ judge-joint-fields bytes lent =
     record {
       fit = λ i. cond-ind (λ (a : Answer). value a i ≤ maxField) (eqb (jointRefusal bytes lent) 0)
           (λ t.
-              let ok = accepted bytes lent (past-eight bytes lent (eqb-true _ _ t)) in
-              let Y = systemOfModel (modelOf bytes) in
-              verdict-small (withoutTouch Y) (touch-laws false Y (system-laws (modelOf bytes) ok)) (size-few (modelOf bytes) ok) i)
+          let ok = accepted bytes lent (past-eight bytes lent (eqb-true _ _ t)) in
+          let Y = systemOfModel (modelOf bytes) in
+          verdict-small (withoutTouch Y) (touch-laws false Y (system-laws (modelOf bytes) ok)) (size-few (modelOf bytes) ok) i)
           (λ _. zero-le);
     }
 
@@ -221,8 +221,8 @@ write-joint-room bytes lent room =
     record {
       few = cond-ind Few (eqb (jointRefusal bytes lent) 0)
           (λ t.
-              let ok = accepted bytes lent (past-eight bytes lent (eqb-true _ _ t)) in
-              few-written (unsafe (withoutTouch (systemOfModel m))) _ room (le-trans (evidence-by-most false m ok) (omega arith)))
+          let ok = accepted bytes lent (past-eight bytes lent (eqb-true _ _ t)) in
+          few-written (unsafe (withoutTouch (systemOfModel m))) _ room (le-trans (evidence-by-most false m ok) (omega arith)))
           (λ _. few-none (jointRefusal bytes lent));
     }
 

@@ -14,7 +14,7 @@ use Rattle.model.specs.Each.{someBelow}
 use Rattle.model.specs.Model.{Lawful, keeps}
 use Rattle.model.proofs.Each.{false≢true, some-law}
 use Rattle.edge_walks.specs.Opening.{opensAlone}
-use Rattle.edge_walks.specs.Cycle.{counts, unresetAt, unreset}
+use Rattle.edge_walks.specs.Cycle.{step, counts, unresetAt, unreset}
 use Rattle.edge_walks.specs.Joint.{ResetsEvery, resetsEvery, PartialReset, partialReset, LacksJointReset, lacksJointReset}
 use Rattle.edge_walks.proofs.Opens.{and-law, opens-law}
 use Rattle.edge_walks.proofs.ClosedWalks.{cycle-law, cycle-ext}
@@ -76,6 +76,17 @@ module _ (m : Model) (ok : Lawful m) where
   pub joint-law : (lacksJointReset m ≡ true) ↔ LacksJointReset m
   unfolding lacksJointReset
   joint-law = cycle-law m ok (partialReset m) (PartialReset m) partial-law
+
+  -- without an edge there is no walk
+  pub no-edges : m .edges ≡ 0 → false ≡ lacksJointReset m
+  no-edges none = by (lacksJointReset m) refl
+    where
+      walk : LacksJointReset m → ⊥
+      walk (k, v, step e b s p w) = omega arith
+
+      by : (b : Bool) → lacksJointReset m ≡ b → false ≡ lacksJointReset m
+      by true q = absurd (walk (joint-law .0 q))
+      by false q = sym q
 
   -- with one clock an edge that resets it resets every clock, so each accepted plan has joint resets
   pub one-clock-joint : m .clocks ≡ 1 → unreset m ≡ false → lacksJointReset m ≡ false

@@ -1,10 +1,9 @@
 -- What the quicker judge says: refused as any call, refused by 17, or the verdict without touch.
 use Prim.Native.Nat.{ℕ}
-use mathlib.Core.Path.{_≡_, refl, ap}
+use mathlib.Core.Path.{_≡_, refl}
 use mathlib.Core.Bool.{true, false}
 use mathlib.Core.List.{List}
 use borrow.Author.Tests.{ne-eqb}
-use Rattle.theory.specs.System.{System}
 use Rattle.theory.specs.WithoutTouch.{withoutTouch}
 use Rattle.number.specs.Answer.{answer}
 use Rattle.model.specs.declared.Model.{Model}

@@ -13,7 +13,8 @@ use Rattle.region_corners.specs.Corners.{CornerSlots}
 use Rattle.region_corners.specs.Shapes.{FaceShapes, Shapes, Linked, SearchShapes, Slotted, Chained}
 use Rattle.region_table.proofs.Counts.{regions-few}
 
--- what else is there is left out
+-- ---- what a search reads of them
+
 pub shapes-faces : {n M : ℕ} {t : List ℕ} → Shapes n M t → FaceShapes n M t
 shapes-faces S = record { long = S .long; face = S .face }
 
@@ -24,7 +25,8 @@ linked-search touch K = record { faces = shapes-faces (K .shapes); linked = λ _
 pub faces-search : {touch : Bool} {n M : ℕ} {t : List ℕ} → touch ≡ false → FaceShapes n M t → SearchShapes touch n M t
 faces-search e F = record { faces = F; linked = λ i. absurd (true≢false (sym i ∙ e)) }
 
--- the faces are there, and the slots y are put behind them
+-- ---- the corners: the slots y are put behind the faces that are there
+
 pub shapes-filled : {n M a b : ℕ} (t y : List ℕ) → a ≡ cornersAt (length (regions n M)) → b ≡ linksAt (length (regions n M))
     → FaceShapes n M t → length y ≡ length (part a b t) → CornerSlots n M y → Shapes n M (put a b t y)
 shapes-filled {n} {M} {a} {b} t y p q F e C =

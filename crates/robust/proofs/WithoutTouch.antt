@@ -60,9 +60,9 @@ module _ (m : Automaton) (locations : ℕ) (W : Within m locations) (kept : Capp
         bool-ext (unsafe (withoutTouch Y)) (unsafe Y)
         (λ t. let (s, c, x) = unsafe-is (withoutTouch Y) (touch-laws false Y laws) t in is-unsafe Y laws (s, touch-marked false Y laws c, x))
         (λ t.
-            let (s, c, x) = unsafe-is Y laws t in
-            let b = laws .allowed-below s (marked-allowed Y laws c) in
-            is-unsafe (withoutTouch Y) (touch-laws false Y laws) (s, joint-states s b .0 c, x))
+        let (s, c, x) = unsafe-is Y laws t in
+        let b = laws .allowed-below s (marked-allowed Y laws c) in
+        is-unsafe (withoutTouch Y) (touch-laws false Y laws) (s, joint-states s b .0 c, x))
 
     pub joint-sheet : ourSheet (withoutTouch Y) ≡ ourSheet Y
     unfolding ourSheet number withTouch systemOf

@@ -1,6 +1,7 @@
-//! Judges the loop plan of document 01, writes its evidence, checks that, reads
-//! it number by number, and asks how soon drift does harm and how soon perfect
-//! clocks get to each location. c/example.c does the same in C.
+//! Judges the loop plan of document 01, asks the quicker judge, writes the plan's
+//! evidence, checks that, reads it number by number, and asks how soon drift does
+//! harm and how soon perfect clocks get to each location. c/example.c does the
+//! same in C.
 
 use drift::{Buffers, Harm, Numbers, Refusal, Verdict};
 
@@ -33,6 +34,7 @@ fn main() {
 pub fn report() -> Result<String, Refusal> {
     let mut buffers = Buffers::new(STATES);
     let judgement = drift::judge(&PLAN, buffers.lend())?;
+    let is_joint = drift::judge_joint(&PLAN, buffers.lend()) != Err(Refusal::NotJoint);
     let mut out = [0; ROOM];
     let written = drift::write_evidence(&PLAN, buffers.lend(), &mut out)?;
     let evidence = &out[..written.bytes];
@@ -42,6 +44,7 @@ pub fn report() -> Result<String, Refusal> {
         format!("verdict {}\n", judgement.verdict),
         format!("states {}\n", judgement.states),
         format!("{} {}\n", counted(judgement.verdict), judgement.count),
+        format!("joint reset {}\n", if is_joint { "yes" } else { "no" }),
         format!("bytes {}\n", written.bytes),
         format!("passes {kind}\n"),
         format!("numbers{}\n", numbers(evidence)?),

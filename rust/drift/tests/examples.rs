@@ -12,6 +12,7 @@ const LINES: &str = "\
 verdict unsafe
 states 132
 steps 8
+joint reset no
 bytes 42
 passes trail
 numbers 2 8 0 0 1 0 3 0 0 2 1 9 0 0 0 0 1 1 0 0 1 2 0 3 1 1 1 1 6 0 1 1 1 2 0 0 0 0 1 1 1 3

@@ -271,7 +271,7 @@ fn several_plans() {
     assert!(lines[3].starts_with("cut    none "), "{told}");
     assert_eq!(
         lines[4],
-        "hasty  unsafe     1172  'ring-open' in 9 steps, with perfect clocks too"
+        "hasty  unsafe     1172  'ring-open' in 11 steps, with perfect clocks too"
     );
     assert!(told.ends_with("\n4 plans: 1 safe, 2 unsafe, 1 without a verdict\n"));
     assert!(String::from_utf8(output.stderr)
@@ -316,6 +316,32 @@ fn evidence_in_a_folder() {
     assert!(shut.contains("File exists"), "{shut}");
 }
 
+/// The quicker judge takes plans with a joint reset, and the command says so.
+/// Evidence of both kinds passes, and of another plan nothing is said.
+#[test]
+fn joint_resets() {
+    let words = "judge           the quicker one: each loop that can be gone has an edge that \
+                 resets every clock";
+    let unwrapped = |told: String| told.split_whitespace().collect::<Vec<_>>().join(" ");
+    for (name, status, kind) in [("poll-mended", GOOD, "sheet"), ("hasty", BAD, "trail")] {
+        let folder = folder("joint").to_str().unwrap().to_string();
+        let file = plan(&format!("{name}.txt"));
+        let told = printed(&["judge", &file, "--evidence", &folder], status);
+        assert!(
+            unwrapped(told).contains(&unwrapped(words.to_string())),
+            "{name}"
+        );
+        printed(&["check", &file, &format!("{folder}/{name}.{kind}")], GOOD);
+        let json = printed(&["judge", &file, "--json"], status);
+        assert!(json.ends_with(",\"joint\":true}\n"), "{json}");
+    }
+    let told = judged("hasty.txt", &[], BAD);
+    let trail = "trail 11 steps into 'ring-open', the fewest without touch";
+    assert!(unwrapped(told).contains(trail));
+    let told = judged("poll.txt", &[], BAD);
+    assert!(!told.contains("quicker") && !told.contains("without touch"));
+}
+
 #[test]
 fn json() {
     let told = printed(
@@ -327,7 +353,7 @@ fn json() {
         "\"perfect_clocks\":{\"clean\":true,\"proved\":true,\"soonest\":null}",
         "\"window\":{\"least_jumps\":6666,",
         "\"passes_proved_check\":true",
-        ",\"mark\":1}\n",
+        ",\"mark\":1,\"joint\":false}\n",
     ] {
         assert!(told.contains(part), "{told}");
     }
@@ -340,7 +366,7 @@ fn json() {
         ],
         BAD,
     );
-    assert!(blank.ends_with(",\"mark\":2}\n"), "{blank}");
+    assert!(blank.ends_with(",\"mark\":2,\"joint\":false}\n"), "{blank}");
     let renamed = blank.replace("poll-blank", "poll");
     assert_eq!(renamed.replace("\"mark\":2", "\"mark\":1"), told);
     let told = printed(

@@ -175,8 +175,14 @@ fn explain() {
         told.ends_with("; zervuldo soonest tells which of them have a least time\n"),
         "{told}"
     );
-    for wrong in ["0", "17", "x", "-1"] {
+    let told = printed(&["explain", "17", &plan("loop.txt")], GOOD);
+    assert!(
+        told.starts_with("refused 17: a loop of edges has none that resets every clock\n")
+            && told.contains("here: none of edge 1 (one -> two), edge 2 (two -> one) resets"),
+        "{told}"
+    );
+    for wrong in ["0", "18", "x", "-1"] {
         complaint(&["explain", "--", wrong], FAILED);
     }
-    assert!(joined(&printed(&["help", "explain"], GOOD)).contains("the refusal, 1 to 16."));
+    assert!(joined(&printed(&["help", "explain"], GOOD)).contains("the refusal, 1 to 17."));
 }

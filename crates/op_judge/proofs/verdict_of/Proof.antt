@@ -1,6 +1,5 @@
 -- `op_judge::verdict_of` meets its contract.
 use native.Mathlib.Omega.{arith}
-use Prim.Native.Nat.{_-_}
 use lib.ListN.{length}
 use borrow.Author.Needs.{needs}
 use Rattle.theory.specs.WithoutTouch.{withTouch}

@@ -1,6 +1,5 @@
 -- `op_marks::marks` meets its contract.
 use borrow.Author.Needs.{needs}
-use native.Mathlib.Omega.{arith}
 use mathlib.Core.Path.{sym, ap, _∙_}
 use lib.Seq.{length-take-le}
 use mathlib.Core.List.{[], _∷_}

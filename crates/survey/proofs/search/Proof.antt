@@ -56,8 +56,8 @@ distances-requires c κs =
     let start = begin byte in
     let given = start .pre .0 in
     let long = start .pre .1 in
-    let Q = asked (start .args .m) (given .0) _ _ (given .1) _ (found .last .1 .1 .1 .1 .0) (given .2) (found .ensures) _ (counted (c .before .before .before .before .before))
-    (found .last .1 .1 .1 .1 .1 .0) (found .last .1 .1 .1 .1 .1 .1 .0) _
+    let Q = asked (start .args .m) (given .0) _ _ (given .1) _ (found .last .1 .1 .1 .1 .0) (given .2) (found .ensures) _
+    (counted (c .before .before .before .before .before)) (found .last .1 .1 .1 .1 .1 .0) (found .last .1 .1 .1 .1 .1 .1 .0) _
     (found .kept .1 .1 .1 .1 .1 .0 ∙ long .second) (found .kept .1 .1 .1 .1 .1 .1 .0 ∙ long .third)
     (sym (prefix-long _ (maxLocations * pointCount) (spots byte)) ∙ ap (λ (k : ℕ). k * pointCount) (byte .from-byte .ensures)) in
     (rw (c .before .before .before .before .from-byte2 .ensures) (Q .0), Q .1, Q .2, Q .3)
