@@ -38,9 +38,10 @@ typedef uint16_t drift_word;
  * enough for every model. */
 #define DRIFT_MOST_STATES 15816
 
-/* The most bytes that a sheet of ours takes: its first number, and up to
- * three bytes for each state. A trail of ours has no such bound here; where
- * the output is too short for it, the writer returns 9. */
+/* The most bytes that a passing sheet takes, of any model: its first number,
+ * and up to three bytes for each state. drift_room tells what one model needs.
+ * A trail has no such bound here; where the output is too short for ours, the
+ * writer returns 9. */
 #define DRIFT_MOST_SHEET_BYTES (1 + 3 * DRIFT_MOST_STATES)
 
 /* What a call returns: 0, or the number of the refusal. */
@@ -70,6 +71,19 @@ enum drift_kind {
     DRIFT_SHEET = 1,
     DRIFT_TRAIL = 2
 };
+
+/* The room that the plan needs, from its bytes alone: nothing is marked, and
+ * nothing is lent. S is exact, and so is the length of each scratch slice, S
+ * again: with four slices so long no call returns 8, and with one of them
+ * shorter every call that is lent scratch does. No sheet that passes for the
+ * plan has more bytes than the sheet limit, so that with so much output
+ * drift_write_evidence and drift_write_joint never return 9 where the plan is
+ * safe. Our trail has at most S-1 steps. Of its bytes nothing is said: with
+ * that output a trail may still get 9. Refusals 1 to 7.
+ *
+ * The answer: number + 2^16 * S + 2^40 * sheet limit. See drift_states,
+ * drift_scratch, drift_sheet_limit, drift_step_limit. */
+uint64_t drift_room(const uint8_t *model, size_t model_length);
 
 /* The verdict on the plan that the model's bytes spell. Refusals 1 to 8.
  *
@@ -263,11 +277,30 @@ static inline uint32_t drift_margin_of(uint64_t answer)
     return (uint32_t)(answer >> 40);
 }
 
-/* Of all that tell it (drift_judge, drift_marks and their joint forms, the
- * margins, drift_harm): S. */
+/* Of all that tell it (drift_room, drift_judge, drift_marks and their joint
+ * forms, the margins, drift_harm): S. */
 static inline size_t drift_states(uint64_t answer)
 {
     return (size_t)(answer >> 16 & 0xffffff);
+}
+
+/* Of drift_room: the length of each of the four scratch slices. */
+static inline size_t drift_scratch(uint64_t answer)
+{
+    return drift_states(answer);
+}
+
+/* Of drift_room: the most bytes of a sheet. */
+static inline size_t drift_sheet_limit(uint64_t answer)
+{
+    return (size_t)(answer >> 40);
+}
+
+/* Of drift_room: the most steps of our trail; 0 on refusal. */
+static inline size_t drift_step_limit(uint64_t answer)
+{
+    size_t states = drift_states(answer);
+    return states == 0 ? 0 : states - 1;
 }
 
 /* Of drift_judge and drift_judge_joint: the in-states if safe, the steps of our

@@ -1,6 +1,7 @@
-/* Judges the loop plan of document 01, asks the quicker judge, writes the
- * plan's evidence, checks that, reads it number by number, and asks how soon
- * drift does harm and how soon perfect clocks get to each location.
+/* Asks what room the loop plan of document 01 needs and makes it, judges the
+ * plan, asks the quicker judge, writes the plan's evidence, checks that, reads
+ * it number by number, and asks how soon drift does harm and how soon perfect
+ * clocks get to each location.
  *
  *     cc -I c -o target/example c/example.c target/staticlib/libdrift_c.a
  */
@@ -9,10 +10,7 @@
 #include <stdio.h>
 #include <stdlib.h>
 
-/* Enough for this plan of 132 states. */
-#define STATES 132
 #define LOCATIONS 4
-#define ROOM 256
 
 /* Clean with perfect clocks, unsafe under drift. */
 static const uint8_t plan[] = {
@@ -24,8 +22,10 @@ static const uint8_t plan[] = {
     2, 3, 0, 0, 0, 2, 2
 };
 
-static drift_word s1[STATES], s2[STATES], s3[STATES], s4[STATES];
-static uint8_t evidence[ROOM];
+/* Made by what drift_room tells. */
+static drift_word *s1, *s2, *s3, *s4;
+static uint8_t *evidence;
+static size_t scratch, room;
 
 /* An answer that is no refusal. */
 static uint64_t accepted(uint64_t answer)
@@ -38,10 +38,45 @@ static uint64_t accepted(uint64_t answer)
     return answer;
 }
 
+/* Memory for so many elements. */
+static void *made(size_t count, size_t size)
+{
+    void *memory = calloc(count, size);
+    if (memory == NULL) {
+        printf("no memory\n");
+        exit(EXIT_FAILURE);
+    }
+    return memory;
+}
+
+/* Enough scratch for every call, and output for every sheet. */
+static void make_room(void)
+{
+    uint64_t answer = accepted(drift_room(plan, sizeof plan));
+    scratch = drift_scratch(answer);
+    room = drift_sheet_limit(answer);
+    printf("room for %zu numbers of scratch, four times\n", scratch);
+    printf("room for %zu bytes of a sheet, %zu steps of a trail\n", room, drift_step_limit(answer));
+    s1 = made(scratch, sizeof *s1);
+    s2 = made(scratch, sizeof *s2);
+    s3 = made(scratch, sizeof *s3);
+    s4 = made(scratch, sizeof *s4);
+    evidence = made(room, sizeof *evidence);
+}
+
+static void free_room(void)
+{
+    free(s1);
+    free(s2);
+    free(s3);
+    free(s4);
+    free(evidence);
+}
+
 static void judge(void)
 {
     uint64_t answer = accepted(drift_judge(
-        plan, sizeof plan, s1, STATES, s2, STATES, s3, STATES, s4, STATES));
+        plan, sizeof plan, s1, scratch, s2, scratch, s3, scratch, s4, scratch));
     int is_unsafe = drift_is_unsafe(answer);
     printf("verdict %s\n", is_unsafe ? "unsafe" : "safe");
     printf("states %zu\n", drift_states(answer));
@@ -53,16 +88,17 @@ static void judge(void)
 static void judge_joint(void)
 {
     uint64_t answer = drift_judge_joint(
-        plan, sizeof plan, s1, STATES, s2, STATES, s3, STATES, s4, STATES);
+        plan, sizeof plan, s1, scratch, s2, scratch, s3, scratch, s4, scratch);
     int is_joint = drift_number_of(answer) != DRIFT_NOT_JOINT;
     printf("joint reset %s\n", is_joint ? "yes" : "no");
 }
 
-/* The number of bytes written. */
+/* The number of bytes written. The plan is unsafe, so that a trail is written,
+ * which could be longer than any sheet; this one is not. */
 static size_t write_evidence(void)
 {
     uint64_t answer = accepted(drift_write_evidence(
-        plan, sizeof plan, s1, STATES, s2, STATES, s3, STATES, s4, STATES, evidence, ROOM));
+        plan, sizeof plan, s1, scratch, s2, scratch, s3, scratch, s4, scratch, evidence, room));
     printf("bytes %zu\n", drift_written(answer));
     return drift_written(answer);
 }
@@ -70,7 +106,7 @@ static size_t write_evidence(void)
 static void check(size_t length)
 {
     uint64_t answer = accepted(drift_check_evidence(
-        plan, sizeof plan, evidence, length, s1, STATES, s2, STATES, s3, STATES, s4, STATES));
+        plan, sizeof plan, evidence, length, s1, scratch, s2, scratch, s3, scratch, s4, scratch));
     printf("passes %s\n", drift_kind_of(answer) == DRIFT_SHEET ? "sheet" : "trail");
 }
 
@@ -91,7 +127,7 @@ static void harm(void)
 {
     uint64_t out[2];
     uint64_t answer = accepted(drift_harm(
-        plan, sizeof plan, s1, STATES, s2, STATES, s3, STATES, s4, STATES, out, 2));
+        plan, sizeof plan, s1, scratch, s2, scratch, s3, scratch, s4, scratch, out, 2));
     if (drift_is_unsafe(answer))
         printf("harm within %llu + %lluq jumps\n",
             (unsigned long long)out[0], (unsigned long long)out[1]);
@@ -104,7 +140,7 @@ static void soonest(void)
     printf("soonest");
     for (location = 0; location < LOCATIONS; location++) {
         uint64_t answer = drift_soonest(
-            plan, sizeof plan, location, s1, STATES, s2, STATES, s3, STATES, s4, STATES);
+            plan, sizeof plan, location, s1, scratch, s2, scratch, s3, scratch, s4, scratch);
         if (drift_number_of(answer) == DRIFT_UNREACHED)
             printf(" never");
         else
@@ -116,6 +152,7 @@ static void soonest(void)
 int main(void)
 {
     size_t length;
+    make_room();
     judge();
     judge_joint();
     length = write_evidence();
@@ -123,5 +160,6 @@ int main(void)
     read_numbers(length);
     harm();
     soonest();
+    free_room();
     return EXIT_SUCCESS;
 }

@@ -35,3 +35,5 @@ pub mod Walks
 pub mod Opening
 -- Request (g) of 02: plans with a joint reset.
 pub mod Joint
+-- Request (h) of 02: room known beforehand.
+pub mod Room

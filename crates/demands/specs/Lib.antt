@@ -20,3 +20,5 @@ pub mod Soonest
 pub mod Opening
 -- Request (g) of 02: plans with a joint reset.
 pub mod Joint
+-- Request (h) of 02: the calls that are lent the room told.
+pub mod Room

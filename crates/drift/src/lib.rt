@@ -15,6 +15,8 @@ pub use op_marks::marks;
 pub use op_marks_joint::marks_joint;
 pub use op_plan::Stored;
 pub use op_plan::write_plan;
+pub use op_room::Space;
+pub use op_room::room;
 pub use op_sheet_margin::Bound;
 pub use op_sheet_margin::sheet_margin;
 pub use op_soonest::Arrival;

@@ -3,17 +3,18 @@ use mathlib.Core.Path.{_≡_, refl, sym, ap, subst, _∙_}
 use mathlib.Core.Bool.{false}
 use mathlib.Core.Logic.{_↔_, _⊎_, inl, inr}
 use mathlib.Core.List.{List, _∷_}
-use Prim.Native.Nat.{ℕ, _<_}
+use Prim.Native.Nat.{ℕ, _≤_, _<_}
 use native.Mathlib.Omega.{arith}
 use lib.ListN.{length, drop}
 use lib.Seq.{drop-append-seam}
 use lib.Dec.{eqb}
 use borrow.Author.Tests.{eqb-true, eqb-false}
 use Rattle.theory.proofs.Below.{cond-ind}
-use Rattle.evidence_number.specs.Evidence.{readEvidence}
+use Rattle.evidence_number.specs.Evidence.{NumberRefusal, readEvidence}
 use Rattle.evidence_number.proofs.Reading.{refused-within, refusal-positive, spelled-first, first-spelled}
 use Rattle.model.specs.declared.Model.{Model}
 use Rattle.model.specs.Model.{Lawful}
+use Rattle.graph.specs.Plan.{systemOfModel}
 use Rattle.sheet.specs.Answer.{sheetAnswer}
 use Rattle.sheet.proofs.Answer.{sheet-law}
 use Rattle.replay.specs.Trail.{trailAnswer}
@@ -21,38 +22,56 @@ use Rattle.replay.proofs.Answers.{passes-law}
 use Rattle.replay.proofs.Ways.{number-ind}
 use Rattle.evidence.specs.declared.Evidence.{Evidence}
 use Rattle.evidence.specs.declared.Evidence.the-variants as evidence
-use Rattle.evidence.specs.Evidence.{SheetPasses, TrailPasses, found, ofKind, checked}
+use Rattle.evidence.specs.Evidence.{SheetPasses, TrailPasses, EvidenceRefusal, found, ofKind, checked}
+use Rattle.sheet.proofs.Answer as sheet
+use Rattle.replay.proofs.Answers as trail
 
 -- ---- the answers
+
+-- those of a sheet and of a trail are of the table
+ranged : {r : ℕ} (number rule : ℕ) → (10 ≤ number) × (number ≤ 14) → (10 ≤ rule) × (rule ≤ 14)
+    → (r ≡ 0) ⊎ ((NumberRefusal r ⊎ (r ≡ number)) ⊎ ((r ≡ 6) ⊎ (r ≡ rule))) → (r ≡ 0) ⊎ EvidenceRefusal r
+ranged number rule a b (inl z) = inl z
+ranged number rule a b (inr (inl (inl n))) = inr (inl n)
+ranged number rule a b (inr (inl (inr e))) = inr (inr (inr (omega arith, omega arith)))
+ranged number rule a b (inr (inr (inl e))) = inr (inr (inl e))
+ranged number rule a b (inr (inr (inr e))) = inr (inr (inr (omega arith, omega arith)))
 
 module _ (m : Model) (bs : List ℕ) where
   -- what each answer says of the bytes
   Means : Evidence → Type 0
   Means evidence.Sheet = SheetPasses m bs
   Means evidence.Trail = TrailPasses m bs
-  Means (evidence.Refused r) = 0 < r
+  Means (evidence.Refused r) = EvidenceRefusal r
 
-  of-refusal : (kind : Evidence) (r : ℕ) → (r ≡ 0 → Means kind) → Means (found kind r)
+  of-refusal : (kind : Evidence) (r : ℕ) → (r ≡ 0) ⊎ EvidenceRefusal r → (r ≡ 0 → Means kind) → Means (found kind r)
   unfolding Means
-  of-refusal kind r h = cond-ind Means (eqb r 0) (λ z. h (eqb-true r 0 z)) (λ z. above r z)
+  of-refusal kind r k h = cond-ind Means (eqb r 0) (λ z. h (eqb-true r 0 z)) (λ z. not-zero k (eqb-false r 0 z))
     where
-      above : (r : ℕ) → eqb r 0 ≡ false → 0 < r
-      above r z = let ne = eqb-false r 0 z in omega (arith, ne)
+      not-zero : (r ≡ 0) ⊎ EvidenceRefusal r → (r ≡ 0 → ⊥) → EvidenceRefusal r
+      not-zero (inl z) n = absurd (n z)
+      not-zero (inr known) n = known
+
+  sheet-known : (at : ℕ) → (sheetAnswer m bs at ≡ 0) ⊎ EvidenceRefusal (sheetAnswer m bs at)
+  sheet-known at = ranged 11 12 (omega arith, omega arith) (omega arith, omega arith) (sheet.answer-range (systemOfModel m) bs at)
+
+  trail-known : (at : ℕ) → (trailAnswer m bs at ≡ 0) ⊎ EvidenceRefusal (trailAnswer m bs at)
+  trail-known at = ranged 13 14 (omega arith, omega arith) (omega arith, omega arith) (trail.answer-range m bs at)
 
   means : Lawful m → Means (checked m bs)
   unfolding checked ofKind Means
   means ok =
       number-ind Means (readEvidence bs 0)
       (λ v to e. cond-ind Means (eqb v 1)
-      (λ t. of-refusal evidence.Sheet (sheetAnswer m bs to) λ z.
+      (λ t. of-refusal evidence.Sheet (sheetAnswer m bs to) (sheet-known to) λ z.
       let (l, s, K) = sheet-law m ok bs to .0 z in
       (l, rw (sym (eqb-true v 1 t)) (first-spelled bs l v to e s), K))
       (λ _. cond-ind Means (eqb v 2)
-      (λ t. of-refusal evidence.Trail (trailAnswer m bs to) λ z.
+      (λ t. of-refusal evidence.Trail (trailAnswer m bs to) (trail-known to) λ z.
       let (vs, s, w) = passes-law m bs to .0 z in
       (vs, rw (sym (eqb-true v 2 t)) (first-spelled bs _ v to e s), w))
-      (λ _. omega arith)))
-      (λ r e. refusal-positive r (refused-within bs 0 r e))
+      (λ _. inr (inr (omega arith, omega arith)))))
+      (λ r e. inl (refused-within bs 0 r e))
 
   -- 01: "the check's is 1 for a passing sheet"
   pub sheet-passes : Lawful m → (checked m bs ≡ evidence.Sheet) ↔ SheetPasses m bs
@@ -74,7 +93,15 @@ module _ (m : Model) (bs : List ℕ) where
         simp (e, passes-law m bs to .1 (vs, t, w)) refl,
   )
 
-  -- and a refusal is never 0
-  pub refusal-above : Lawful m → (r : ℕ) → checked m bs ≡ evidence.Refused r → 0 < r
+  -- or a refusal of the table, which is never 0
+  pub refusal-known : Lawful m → (r : ℕ) → checked m bs ≡ evidence.Refused r → EvidenceRefusal r
   unfolding Means
-  refusal-above ok r e = subst Means e (means ok)
+  refusal-known ok r e = subst Means e (means ok)
+
+  pub refusal-above : Lawful m → (r : ℕ) → checked m bs ≡ evidence.Refused r → 0 < r
+  refusal-above ok r e = by (refusal-known ok r e)
+    where
+      by : EvidenceRefusal r → 0 < r
+      by (inl n) = refusal-positive r n
+      by (inr (inl six)) = omega arith
+      by (inr (inr range)) = omega arith

@@ -1,12 +1,14 @@
 -- Evidence from anywhere: what passes, and what the check answers.
+use mathlib.Core.Path.{_≡_}
 use mathlib.Core.Bool.{cond}
+use mathlib.Core.Logic.{_⊎_}
 use mathlib.Core.List.{List, [], _∷_}
-use Prim.Native.Nat.{ℕ}
+use Prim.Native.Nat.{ℕ, _≤_}
 use lib.Dec.{eqb}
 use Rattle.theory.specs.Sheet.{Sheet}
 use Rattle.theory.specs.Replay.{Move, Passes}
 use Rattle.number.specs.Number.{onNumber}
-use Rattle.evidence_number.specs.Evidence.{SpellsEvidence, readEvidence}
+use Rattle.evidence_number.specs.Evidence.{SpellsEvidence, NumberRefusal, readEvidence}
 use Rattle.model.specs.declared.Model.{Model}
 use Rattle.graph.specs.Plan.{automatonOf, systemOfModel, labelledOfModel}
 use Rattle.sheet.specs.Answer.{sheetAnswer}
@@ -25,6 +27,11 @@ SheetPasses m bs = (l : List ℕ) × SpellsEvidence bs (1 ∷ l) × Sheet (syste
 -- "A trail is 2, a step count, then steps"; "or a trail whose steps all replay and which ends in a forbidden location"
 abbrev pub TrailPasses : Model → List ℕ → Type 0
 TrailPasses m bs = (vs : List Move) × SpellsEvidence bs (2 ∷ trailNumbers (automatonOf m) vs) × Passes (labelledOfModel m) vs
+
+-- What evidence is refused by: "its first number by 1, 2, 10; sheet numbers in order by 1, 2, 11, then 6, 12; trail numbers and steps in order by 1, 2, 13,
+-- then 6, 14"; by 02 (b) a number by 15, too.
+abbrev pub EvidenceRefusal : ℕ → Type 0
+EvidenceRefusal r = NumberRefusal r ⊎ ((r ≡ 6) ⊎ ((10 ≤ r) × (r ≤ 14)))
 
 -- ---- what computes it
 

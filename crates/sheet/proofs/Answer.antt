@@ -15,7 +15,7 @@ use Rattle.theory.proofs.Below.{either, cond-ind, test↔, leb↔, eqb↔, and�
 use Rattle.theory.proofs.Sheet.{keeps-law}
 use Rattle.number.specs.declared.Number.{Number}
 use Rattle.number.specs.Number.{onNumber}
-use Rattle.evidence_number.specs.Evidence.{SpellsEvidence, readEvidence}
+use Rattle.evidence_number.specs.Evidence.{SpellsEvidence, NumberRefusal, readEvidence}
 use Rattle.evidence_number.proofs.Reading.{Reads, none, more, refused-within, refusal-positive, reads-spelled, spelled-reads}
 use Rattle.model.specs.declared.Model.{Model}
 use Rattle.model.specs.Model.{Lawful}
@@ -32,6 +32,14 @@ use Rattle.number.specs.declared.Number.the-variants as number
 number↔ : (allowed : Bool) (top v : ℕ) → (numberKeeps allowed top v ≡ true) ↔ ((v ≤ top) × ((allowed ≡ true) ⊎ (v ≡ 0)))
 unfolding numberKeeps
 number↔ allowed top v = and↔ (leb↔ v top) (or↔ (test↔ allowed) (eqb↔ v 0))
+
+-- the refusals of a sheet's numbers
+abbrev pub Refusal : ℕ → Type 0
+Refusal r = NumberRefusal r ⊎ (r ≡ 11)
+
+not-zero : (r : ℕ) → Refusal r → r ≡ 0 → ⊥
+not-zero r (inl n) z = omega (arith, refusal-positive r n)
+not-zero r (inr e) z = omega arith
 
 -- the numbers of the states from i on keep
 Keep : (ℕ → Bool) → ℕ → ℕ → List ℕ → Type 0
@@ -63,7 +71,7 @@ module _ (allowed : ℕ → Bool) (top : ℕ) (bs : List ℕ) where
   -- and no others
   Answers : ℕ → ℕ → ℕ → Numbers → Type 0
   Answers n i at (got l e) = (length l ≡ n) × Reads bs at l e × Keep allowed top i l
-  Answers n i at (refused r) = 0 < r
+  Answers n i at (refused r) = Refusal r
 
   answers : (n i at : ℕ) → Answers n i at (numbersFrom allowed top bs n i at)
   unfolding numbersFrom Answers Keep
@@ -80,8 +88,8 @@ module _ (allowed : ℕ → Bool) (top : ℕ) (bs : List ℕ) where
           (onNumber x (λ v p. cond (numberKeeps (allowed i) top v) (after (v ∷ []) (numbersFrom allowed top bs n (i + 1) p)) (refused 11)) refused)
       by ih (number.Value v p) r =
           cond-ind (Answers (suc n) i at) (numberKeeps (allowed i) top v)
-          (λ t. next v p r t (numbersFrom allowed top bs n (i + 1) p) (ih p)) (λ _. omega arith)
-      by ih (number.Refused x) r = refusal-positive x (refused-within bs at x r)
+          (λ t. next v p r t (numbersFrom allowed top bs n (i + 1) p) (ih p)) (λ _. inr refl)
+      by ih (number.Refused x) r = inl (refused-within bs at x r)
 
 -- ---- the ways through the check
 
@@ -101,6 +109,21 @@ module _ (Y : System) (bs : List ℕ) (at : ℕ) where
 
   sheets-blank : (l : List ℕ) (end : ℕ) → Sheets (got l end) → Blank Y l
   sheets-blank l end t p b o = ⊎-elim (λ a. absurd (true≢false (sym a ∙ o))) (λ z. z) (sheets-at l end t p b .1)
+
+  -- the answers that there are
+  pub answer-range : (sheetRefusal Y bs at ≡ 0) ⊎ (Refusal (sheetRefusal Y bs at) ⊎ ((sheetRefusal Y bs at ≡ 6) ⊎ (sheetRefusal Y bs at ≡ 12)))
+  unfolding sheetRefusal Sheets Answers
+  answer-range = by (sheetNumbers Y bs at) sheets
+    where
+      Known : ℕ → Type 0
+      Known n = (n ≡ 0) ⊎ (Refusal n ⊎ ((n ≡ 6) ⊎ (n ≡ 12)))
+
+      by : (c : Numbers) → Sheets c
+          → Known (onNumbers c (λ l end. cond (ltb end (length bs)) 6 (cond (keeps Y (inOf l) (heightOf l)) 0 12)) (λ r. r))
+      by (got l end) t =
+          cond-ind Known (ltb end (length bs)) (λ _. inr (inr (inl refl)))
+          (λ _. cond-ind Known (keeps Y (inOf l) (heightOf l)) (λ _. inl refl) (λ _. inr (inr (inr refl))))
+      by (refused r) t = inr (inl t)
 
   pub answer-refused : (r : ℕ) → sheetNumbers Y bs at ≡ refused r → r ≡ sheetRefusal Y bs at
   unfolding sheetRefusal
@@ -156,7 +179,7 @@ module _ (Y : System) (L : Laws Y) (bs : List ℕ) (at : ℕ) where
       by : (c : Numbers) → Sheets Y bs at c
           → onNumbers c (λ l end. cond (ltb end (length bs)) 6 (cond (keeps Y (inOf l) (heightOf l)) 0 12)) (λ r. r) ≡ 0 → Passes
       by (got l end) t e = tested l end t (ltb end (length bs)) (keeps Y (inOf l) (heightOf l)) refl refl e
-      by (refused r) t e = absurd (omega arith)
+      by (refused r) t e = absurd (not-zero r t e)
 
   sheet-keep : (l : List ℕ) → Sheet Y l → Keep (Y .allowed) (2 * Y .size - 1) 0 l
   unfolding Keep

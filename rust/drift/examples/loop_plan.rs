@@ -1,9 +1,9 @@
-//! Judges the loop plan of document 01, asks the quicker judge, writes the plan's
-//! evidence, checks that, reads it number by number, and asks how soon drift does
-//! harm and how soon perfect clocks get to each location. c/example.c does the
-//! same in C.
+//! Asks what room the loop plan of document 01 needs and makes it, judges the plan,
+//! asks the quicker judge, writes the plan's evidence, checks that, reads it number
+//! by number, and asks how soon drift does harm and how soon perfect clocks get to
+//! each location. c/example.c does the same in C.
 
-use drift::{Buffers, Harm, Numbers, Refusal, Verdict};
+use drift::{Buffers, Harm, Numbers, Refusal, Room, Verdict};
 
 /// Clean with perfect clocks, unsafe under drift.
 const PLAN: [u8; 46] = [
@@ -15,10 +15,7 @@ const PLAN: [u8; 46] = [
     2, 3, 0, 0, 0, 2, 2,
 ];
 
-/// Enough for this plan of 132 states.
-const STATES: usize = 132;
 const LOCATIONS: u64 = 4;
-const ROOM: usize = 256;
 
 fn main() {
     match report() {
@@ -32,15 +29,18 @@ fn main() {
 
 /// What is found of the plan, a line for each call.
 pub fn report() -> Result<String, Refusal> {
-    let mut buffers = Buffers::new(STATES);
+    let room = drift::room(&PLAN)?;
+    let mut buffers = Buffers::new(room.scratch);
     let judgement = drift::judge(&PLAN, buffers.lend())?;
     let is_joint = drift::judge_joint(&PLAN, buffers.lend()) != Err(Refusal::NotJoint);
-    let mut out = [0; ROOM];
+    // A trail could be longer than any sheet; that of this plan is not.
+    let mut out = vec![0; room.sheet];
     let written = drift::write_evidence(&PLAN, buffers.lend(), &mut out)?;
     let evidence = &out[..written.bytes];
     let kind = drift::check_evidence(&PLAN, evidence, buffers.lend())?;
     let harm = drift::harm(&PLAN, buffers.lend())?;
     Ok([
+        room_lines(&room),
         format!("verdict {}\n", judgement.verdict),
         format!("states {}\n", judgement.states),
         format!("{} {}\n", counted(judgement.verdict), judgement.count),
@@ -52,6 +52,19 @@ pub fn report() -> Result<String, Refusal> {
         format!("soonest{}\n", times(&mut buffers)?),
     ]
     .concat())
+}
+
+fn room_lines(room: &Room) -> String {
+    let Room {
+        scratch,
+        sheet,
+        steps,
+        ..
+    } = room;
+    format!(
+        "room for {scratch} numbers of scratch, four times\n\
+         room for {sheet} bytes of a sheet, {steps} steps of a trail\n"
+    )
 }
 
 /// What the count of a judgement counts.

@@ -48,6 +48,7 @@ macro_rules! foreign {
 }
 
 foreign! {
+    fn drift_room(read model) -> u64;
     fn drift_judge(read model, scratch [a, b, c, d]) -> u64;
     fn drift_marks(read model, scratch [a, b, c, d], write out: u8) -> u64;
     fn drift_judge_joint(read model, scratch [a, b, c, d]) -> u64;
@@ -77,6 +78,8 @@ pub const STATES: Range<u32> = 16..40;
 pub const COUNT: Range<u32> = 40..64;
 /// A: every drift below 1/A of a unit is harmless.
 pub const MARGIN: Range<u32> = 40..64;
+/// The most bytes of a sheet.
+pub const SHEET: Range<u32> = 40..64;
 /// The least time, in units.
 pub const UNITS: Range<u32> = 16..40;
 /// The bytes written, of evidence or of a plan.

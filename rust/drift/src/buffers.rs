@@ -13,7 +13,8 @@ pub type Scratch<'a> = [&'a mut [Word]; 4];
 pub struct Buffers([Vec<Word>; 4]);
 
 impl Buffers {
-    /// Enough for plans of so many states; `MOST_STATES` is for every plan.
+    /// Enough for plans of so many states: what `room` tells of one is enough
+    /// for that, `MOST_STATES` for every plan.
     pub fn new(states: usize) -> Buffers {
         Buffers(std::array::from_fn(|_| vec![0; states]))
     }

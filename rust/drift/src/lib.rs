@@ -35,6 +35,21 @@ impl fmt::Display for Verdict {
     }
 }
 
+/// The room that a plan needs.
+#[derive(Clone, Copy, Debug, PartialEq, Eq)]
+pub struct Room {
+    /// The number of states (S).
+    pub states: usize,
+    /// The length of each of the four scratch slices: with so much no call gives
+    /// `ScratchTooShort`, with less in one of them each does.
+    pub scratch: usize,
+    /// The most bytes of a sheet that passes. With so much output no writer gives
+    /// `OutputTooShort` for a safe plan; our trail may be longer.
+    pub sheet: usize,
+    /// The most steps of our trail.
+    pub steps: usize,
+}
+
 #[derive(Clone, Copy, Debug, PartialEq, Eq)]
 pub struct Judgement {
     pub verdict: Verdict,
@@ -97,6 +112,18 @@ pub enum Harm {
     /// For drift e/D and every q with D <= q*e, some run of at most
     /// base + rate*q jumps enters a forbidden location.
     Within { states: usize, base: u64, rate: u64 },
+}
+
+/// What to lend for a plan, from its bytes alone.
+pub fn room(model: &[u8]) -> Result<Room, Refusal> {
+    let answer = accepted(drift_room(model))?;
+    let states = states_of(answer);
+    Ok(Room {
+        states,
+        scratch: states,
+        sheet: field(answer, SHEET) as usize,
+        steps: states - 1,
+    })
 }
 
 /// The verdict on a plan.

@@ -9,6 +9,8 @@ use std::path::{Path, PathBuf};
 use std::process::Command;
 
 const LINES: &str = "\
+room for 132 numbers of scratch, four times
+room for 265 bytes of a sheet, 131 steps of a trail
 verdict unsafe
 states 132
 steps 8

@@ -1,7 +1,7 @@
 //! The calls: judge, marks, evidence, check; of document 02 the shortest form of
-//! a plan, the rounds of the marking, the least time to a location, and the judge,
-//! marks and evidence of plans with a joint reset; and beyond both the margin of our
-//! sheet and the harm of our trail.
+//! a plan, the rounds of the marking, the least time to a location, the judge, marks
+//! and evidence of plans with a joint reset, and the room that a plan needs; and beyond
+//! both the margin of our sheet and the harm of our trail.
 //! Scratch is given as the four lengths alone, since this checker uses memory of
 //! its own; they decide only about refusal 8. Output is written on success and
 //! not otherwise.
@@ -16,7 +16,7 @@ use crate::marking::{with_touch, Closure, WITHOUT_TOUCH};
 use crate::model::{read_model, read_plan, Model};
 use crate::refusal::*;
 use crate::regions::Regions;
-use crate::sheet::our_sheet;
+use crate::sheet::{most_bytes, our_sheet};
 use crate::shortest_plan::shortest_plan;
 use crate::soonest::least_time;
 use crate::trail::{our_trail, spell_trail, TrailStep};
@@ -40,6 +40,19 @@ pub struct Rounds {
     pub rounds: usize,
     /// The marked states.
     pub marked: usize,
+}
+
+/// What a plan needs, known before anything is marked.
+#[derive(Clone, Copy, Debug, PartialEq, Eq)]
+pub struct Room {
+    /// The number of states (S).
+    pub states: usize,
+    /// The length of each of the four scratch slices.
+    pub scratch: usize,
+    /// No sheet that passes has more bytes.
+    pub sheet: usize,
+    /// Our trail, also the one without a touch, has no more steps.
+    pub steps: usize,
 }
 
 /// How slight a drift is harmless for ever.
@@ -248,6 +261,19 @@ pub fn soonest(model: &[u8], location: u64, scratch: Scratch) -> Result<u64, Ref
         return Err(NEVER_THERE);
     }
     least_time(&graph, location as usize).ok_or(NEVER_THERE)
+}
+
+/// The room that a plan needs. All of the plan is read, for its refusals, but the
+/// header alone decides.
+pub fn room(model: &[u8]) -> Result<Room, Refusal> {
+    let states = states_of(&read_model(model)?);
+    Ok(Room {
+        states,
+        scratch: states,
+        sheet: most_bytes(states),
+        // A shortest way is in no state twice.
+        steps: states - 1,
+    })
 }
 
 /// The margin of the sheet that we write for a safe model.

@@ -10,7 +10,7 @@ use crate::random::Random;
 use crate::regions::Regions;
 
 /// The size of a model.
-#[derive(Clone, Copy, Debug)]
+#[derive(Clone, Copy, Debug, PartialEq, Eq)]
 pub struct Shape {
     pub clocks: usize,
     pub ceiling: u32,
@@ -29,23 +29,27 @@ impl Shape {
     }
 }
 
-/// One of the sizes that are wanted, if there is one.
-pub fn pick_shape(random: &mut Random, wanted: impl Fn(&Shape) -> bool) -> Option<Shape> {
+/// All sizes that there are.
+pub fn all_shapes() -> Vec<Shape> {
     let mut shapes = Vec::new();
     for clocks in 1..=MAX_CLOCKS {
         for ceiling in 1..=MAX_CEILING.into() {
             for locations in 1..=MAX_LOCATIONS {
-                let shape = Shape {
+                shapes.push(Shape {
                     clocks,
                     ceiling,
                     locations,
-                };
-                if wanted(&shape) {
-                    shapes.push(shape);
-                }
+                });
             }
         }
     }
+    shapes
+}
+
+/// One of the sizes that are wanted, if there is one.
+pub fn pick_shape(random: &mut Random, wanted: impl Fn(&Shape) -> bool) -> Option<Shape> {
+    let mut shapes = all_shapes();
+    shapes.retain(wanted);
     (!shapes.is_empty()).then(|| *random.pick(&shapes))
 }
 

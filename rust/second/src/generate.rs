@@ -14,7 +14,8 @@ use crate::blanks::{blank_model, early_draft, is_safe_by_its_mark};
 use crate::calls::states_of;
 use crate::components::Components;
 use crate::dead_links::{dead_links_model, has_dead_edge, is_refused_by_all_edges};
-use crate::draft::{loop_draft, padded, pick_shape, random_draft, random_mark, Draft, Shape};
+use crate::draft::{all_shapes, pick_shape, Draft, Shape};
+use crate::draft::{loop_draft, padded, random_draft, random_mark};
 use crate::graph::Graph;
 use crate::joint_resets::{disjoint_model, has_another_trail, joint_model, lacks_by_all_edges};
 use crate::limits::{MAX_CEILING, MAX_CLOCKS, MAX_EDGES, MAX_LOCATIONS, MAX_STATES};
@@ -29,7 +30,7 @@ use std::collections::BTreeMap;
 use std::convert::Infallible;
 
 /// The kinds that `generate` knows.
-pub const KINDS: [&str; 26] = [
+pub const KINDS: [&str; 27] = [
     "safe",
     "drift",
     "plain",
@@ -56,6 +57,7 @@ pub const KINDS: [&str; 26] = [
     "dead-links",
     "joint",
     "disjoint",
+    "sizes",
 ];
 
 /// What an accepted model is.
@@ -125,6 +127,7 @@ pub fn generate(seed: u64, kind: &str) -> Option<Vec<u8>> {
         "dead-links" => dead_links_model(random).bytes(),
         "joint" => joint_model(random).bytes(),
         "disjoint" => disjoint_model(random).bytes(),
+        "sizes" => sized_model(seed, random),
         _ => return None,
     })
 }
@@ -233,6 +236,21 @@ pub fn respelled(random: &mut Random, model: &[u8]) -> Option<Vec<u8>> {
         }
     }
     Some(padded(random, &numbers))
+}
+
+/// Of any class, padded or not. Seeds take turns, so that each size comes up once in as
+/// many seeds as there are sizes; each turn begins one size later, so that seeds some way
+/// apart meet them all too.
+fn sized_model(seed: u64, random: &mut Random) -> Vec<u8> {
+    let sizes = all_shapes();
+    let count = sizes.len() as u64;
+    let size = sizes[((seed / count % count + seed % count) % count) as usize];
+    let draft = accepted(random, None, |shape| *shape == size);
+    if random.one_in(2) {
+        padded(random, &draft.numbers())
+    } else {
+        draft.bytes()
+    }
 }
 
 /// A draft to damage: of any size, since refusals 1 to 7 come before 8.

@@ -9,7 +9,8 @@
 //! the rounds of the marking, is in `marking`; request (e), the least time to a
 //! location, is `soonest`; request (f), that closed walks count only if their
 //! edges can open, is in `model`; request (g), plans with a joint reset, is in
-//! `model`, `marking`, `trail` and `calls`. Beyond both documents, `margin` and
+//! `model`, `marking`, `trail` and `calls`; request (h), the room that a plan
+//! needs, is in `calls` and `sheet`. Beyond both documents, `margin` and
 //! `harm` tell how slight a drift is harmless and how soon another does harm.
 //! `brute` does everything again by naive definitions, `widened` searches runs
 //! without regions; `generate`, `blanks`, `dead_links`, `joint_resets`, `mutate`,
@@ -54,7 +55,7 @@ pub mod widened;
 pub use calls::{check_evidence, judge, marks, write_evidence, write_plan, Judgement};
 pub use calls::{harm, sheet_margin, Harm, SheetMargin};
 pub use calls::{judge_joint, marks_joint, write_joint};
-pub use calls::{rounds, soonest, Rounds};
+pub use calls::{room, rounds, soonest, Room, Rounds};
 pub use model::{read_model, read_plan, Edge, Location, Model, Reading};
 pub use numbers::{number_at, spelled_at, Spelled};
 pub use refusal::Refusal;

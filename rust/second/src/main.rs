@@ -9,7 +9,7 @@ use second::mutate;
 use second::program::{bytes_of_text, evidence_bytes, marks_bytes, shortest_bytes};
 use second::program::{harm_lines, judge_lines, margin_lines};
 use second::program::{joint_evidence_bytes, joint_judge_lines, joint_marks_bytes};
-use second::program::{refusal_line, soonest_line, OUTPUT, SCRATCH};
+use second::program::{refusal_line, room_lines, soonest_line, OUTPUT, SCRATCH};
 use std::io::{Read, Write};
 use std::process::ExitCode;
 use std::str::FromStr;
@@ -28,6 +28,7 @@ second harm FILE|- [SCRATCH]             three lines with our trail's harm, or t
 second soonest FILE|- LOCATION [SCRATCH] the least time to a location, or the refusal line
 second check MODEL EVIDENCE [SCRATCH]    passes 1, passes 2, or the refusal line
 second shortest FILE|- [--output N]      the model's shortest bytes, or the refusal line
+second room FILE|-                       four lines with the room it needs, or the refusal line
 second generate SEED KIND                a model's bytes
 second generate --kinds                  the kinds
 second generate --shares [COUNT]         shares of kinds, refusals, classes and marks
@@ -87,6 +88,7 @@ fn run(mut arguments: Vec<String>) -> Result<Vec<u8>, String> {
             Ok(check_line(&read(model)?, &read(evidence)?, scratch).into_bytes())
         }
         ["shortest", file] => Ok(shortest_bytes(&read(file)?, output)),
+        ["room", file] => Ok(room_lines(&read(file)?).into_bytes()),
         ["generate", rest @ ..] => generated(rest),
         ["mutate", rest @ ..] => mutated(rest),
         ["cases"] => Ok(cases().into_bytes()),

@@ -1,8 +1,8 @@
 //! The two programs of document 01, the same of plans with a joint reset, what the
-//! command tells of drift and of the least time or writes besides, and the text form
-//! of byte files.
+//! command tells of drift, of the least time and of room or writes besides, and the text
+//! form of byte files.
 
-use crate::calls::{harm, judge_and_write, marks, sheet_margin, soonest};
+use crate::calls::{harm, judge_and_write, marks, room, sheet_margin, soonest};
 use crate::calls::{judge_and_write_joint, marks_joint, write_joint};
 use crate::calls::{write_evidence, write_plan, Harm, Judgement, SheetMargin};
 use crate::refusal::Refusal;
@@ -73,6 +73,17 @@ pub fn harm_lines(model: &[u8], scratch: usize) -> String {
 pub fn soonest_line(model: &[u8], location: u64, scratch: usize) -> String {
     match soonest(model, location, [scratch; 4]) {
         Ok(time) => format!("time {time}\n"),
+        Err(refusal) => refusal_line(refusal),
+    }
+}
+
+/// Four lines with the room that a plan needs, or the refusal line.
+pub fn room_lines(model: &[u8]) -> String {
+    match room(model) {
+        Ok(room) => format!(
+            "states {}\nscratch {}\nsheet {}\nsteps {}\n",
+            room.states, room.scratch, room.sheet, room.steps
+        ),
         Err(refusal) => refusal_line(refusal),
     }
 }

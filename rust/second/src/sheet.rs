@@ -4,7 +4,7 @@
 use crate::components::Components;
 use crate::graph::Graph;
 use crate::marking::CornerNotes;
-use crate::numbers::push_number;
+use crate::numbers::{push_number, shortest};
 
 /// The number with which a sheet begins.
 pub const SHEET: u32 = 1;
@@ -12,6 +12,12 @@ pub const SHEET: u32 = 1;
 /// The greatest number in a sheet of so many states, the 1 at its front apart.
 pub fn greatest_number(states: usize) -> u32 {
     2 * states as u32 - 1
+}
+
+/// The most bytes of a sheet of so many states that passes: the number in front
+/// takes one, and no state's takes more than the greatest in its shortest form.
+pub fn most_bytes(states: usize) -> usize {
+    states * shortest(&[greatest_number(states)]).len() + 1
 }
 
 /// The sheet we write for a safe model: the marked set, with the heights

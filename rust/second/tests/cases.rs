@@ -6,6 +6,7 @@ mod common;
 use common::{LOOP, LOOP_TRAIL};
 use second::blanks::with_mark;
 use second::brute::read::read;
+use second::brute::room::room as brute_room;
 use second::brute::{spellings, Brute};
 use second::calls::{evidence_of, joint_evidence_of, states_of};
 use second::cases::rules::{broken_rules, Rule, RULES};
@@ -20,7 +21,7 @@ use second::numbers::{numbers_of, shortest, Reader};
 use second::padding::{first_padded, pad_at};
 use second::program::{bytes_of_text, SCRATCH};
 use second::refusal::LAST;
-use second::{read_model, read_plan};
+use second::{read_model, read_plan, room, Room};
 use std::collections::{BTreeMap, BTreeSet};
 
 /// A plan, the line of a case of it, and the answer.
@@ -104,6 +105,7 @@ fn every_answer_of_an_operation_comes_up() {
         ("plan", &[9]),
         ("margin", &[]),
         ("rounds", &[]),
+        ("room", &[]),
         ("soonest", &[8, 16]),
         ("judge_joint", &[8, 17]),
         ("marks_joint", &[8, 9, 17]),
@@ -491,6 +493,117 @@ fn locations_and_scratch() {
                 short.eq([slice]) && (*location > 7) == beyond && answer.starts_with("8,")
             }));
         }
+    }
+}
+
+/// The brute-force route tells the same room of each plan, which is asked for it once,
+/// first of all. Plans of every size are.
+#[test]
+fn the_brute_force_route_has_the_same_room() {
+    let text = cases();
+    let lines: Vec<&str> = text.lines().collect();
+    let announced = (0..lines.len()).filter(|&at| lines[at].starts_with('-'));
+    assert!(announced.clone().all(|at| lines[at + 2] == "room"));
+    let mut sizes = BTreeSet::new();
+    let mut asked = 0;
+    for (model, line, answer) in all_answered() {
+        if line != "room" {
+            continue;
+        }
+        let words = match brute_room(&model) {
+            Ok(values) => format!("0{}", values.map(|value| format!(" {value}")).concat()),
+            Err(refusal) => refusal.to_string(),
+        };
+        assert_eq!(answer, words, "{model:?}");
+        asked += 1;
+        if let Ok(model) = read_model(&model) {
+            sizes.insert((model.clocks, model.ceiling, model.locations.len()));
+        }
+    }
+    assert_eq!((asked, sizes.len()), (announced.count(), 96));
+}
+
+/// What a line lends: output, if there is some, and scratch.
+fn lent(line: &str) -> (Option<usize>, Vec<usize>) {
+    let (word, rest) = line.split_once(' ').unwrap_or((line, ""));
+    let rest = rest.split(' ').next_back().unwrap_or("");
+    let mut lengths: Vec<usize> = rest.split(',').flat_map(str::parse).collect();
+    let writes = word.starts_with("marks") || word.starts_with("write");
+    let output = writes.then(|| lengths.remove(0));
+    (output, lengths)
+}
+
+/// What is seen of a line that lends scratch as told or a number less in one slice, and of
+/// the output then. 8 comes with the latter alone.
+fn seen_of(told: &Room, line: &str, number: &str) -> Vec<String> {
+    let (output, scratch) = lent(line);
+    let less: Option<Vec<usize>> = scratch
+        .iter()
+        .map(|&length| told.scratch.checked_sub(length))
+        .collect();
+    let word = line.split(' ').next().unwrap();
+    match less.as_deref() {
+        Some([0, 0, 0, 0]) => assert_ne!(number, "8", "{line}"),
+        Some(less @ [_, _, _, _]) if less.iter().sum::<usize>() == 1 => {
+            assert_eq!(number, "8", "{line}");
+            let at = less.iter().position(|&less| less == 1).unwrap();
+            return vec![format!("{word}, a slice"), format!("{word}, slice {at}")];
+        }
+        _ => return Vec::new(),
+    }
+    let needed = match word {
+        "marks" | "marks_joint" => told.states,
+        _ => told.sheet,
+    };
+    let missing = output.and_then(|output| needed.checked_sub(output));
+    let of_output = missing.map(|missing| format!("{word}, {missing} less: {number}"));
+    let mut seen = vec![format!("{word}, as told")];
+    seen.extend(of_output);
+    seen
+}
+
+/// Each operation is lent just the scratch that is told, and a number less in one slice
+/// alone, the judge in each of them; those that write just the output, and a byte less.
+#[test]
+fn room_is_lent_as_told() {
+    let mut seen: BTreeSet<String> = BTreeSet::new();
+    let mut cases = all_answered();
+    cases.retain(|(_, line, _)| is_operation(line) && !line.starts_with("plan"));
+    for (model, line, answer) in cases {
+        if let Ok(told) = room(&model) {
+            let number = answer.split([' ', ',']).next().unwrap();
+            seen.extend(seen_of(&told, &line, number));
+        }
+    }
+    let has = |word: &str, what: &str| seen.contains(&format!("{word}, {what}"));
+    for word in ["judge", "sheet_margin", "harm", "soonest", "judge_joint"] {
+        assert!(has(word, "as told") && has(word, "a slice"), "{word}");
+    }
+    assert!((0..4).all(|at| has("judge", &format!("slice {at}"))));
+    for word in ["marks", "write", "marks_joint", "write_joint"] {
+        assert!(has(word, "as told") && has(word, "a slice"), "{word}");
+        assert!(has(word, "0 less: 0") && has(word, "1 less: 9"), "{word}");
+    }
+    // A sheet may have fewer bytes, and a trail more.
+    assert!(has("write", "1 less: 0") && has("write", "0 less: 9"));
+}
+
+/// With each number of clocks a sheet passes that is as long as can be, with two or three
+/// of numbers of two bytes; no sheet that passes is longer.
+#[test]
+fn sheets_as_long_as_can_be() {
+    let mut longest = BTreeSet::new();
+    for (model, pieces) in answered() {
+        for (evidence, _) in pieces.iter().filter(|(_, answer)| answer == "0 1") {
+            let told = room(&model).unwrap();
+            assert!(evidence.len() <= told.sheet);
+            if evidence.len() == told.sheet {
+                longest.insert((read_model(&model).unwrap().clocks, told.states > 64));
+            }
+        }
+    }
+    for case in [(1, false), (2, false), (3, false), (2, true), (3, true)] {
+        assert!(longest.contains(&case), "{case:?}");
     }
 }
 

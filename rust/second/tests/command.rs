@@ -191,6 +191,45 @@ fn shortest_plans() {
     assert_eq!(second::read_plan(&short), second::read_plan(&many));
 }
 
+/// Neither scratch nor output is lent, so that none is too short.
+#[test]
+fn room_lines() {
+    for (arguments, input, lines) in [
+        (
+            &["-"][..],
+            &ROW[..],
+            &b"states 3\nscratch 3\nsheet 4\nsteps 2\n"[..],
+        ),
+        (
+            &["-"],
+            &LOOP,
+            b"states 132\nscratch 132\nsheet 265\nsteps 131\n",
+        ),
+        (
+            &["-", "--scratch", "0", "--output", "0"],
+            &ROW,
+            b"states 3\nscratch 3\nsheet 4\nsteps 2\n",
+        ),
+        (&["-"], &LOOP[..45], b"refused 1\n"),
+        (&["-"], &[0; 46], b"refused 3\n"),
+        (
+            &["-"],
+            &[1, 1, 1, 1, 1, 0, 0, 0, 0, 0, 0, 0, 1],
+            b"refused 7\n",
+        ),
+    ] {
+        let arguments = [&["room"], arguments].concat();
+        assert_eq!(answer(&arguments, input), lines, "{arguments:?}");
+    }
+    let many = second::generate::generate(0, "largest").unwrap();
+    assert_eq!(
+        answer(&["room", "-"], &many),
+        b"states 15816\nscratch 15816\nsheet 47449\nsteps 15815\n"
+    );
+    let row = file("room.plan", b"1,1,1,1; 0,0 # header\n 0,2");
+    assert!(answer(&["room", &row], &[]).starts_with(b"states 3\n"));
+}
+
 #[test]
 fn more_states_than_the_scratch() {
     let three_locations = [1, 3, 4, 3, 0, 0, 0, 0, 0, 0, 0, 0, 0, 0, 0, 0, 0, 0];
@@ -256,6 +295,8 @@ fn wrong_arguments() {
         &["marks-joint", "-", "1", "2"],
         &["shortest"],
         &["shortest", "-", "4000"],
+        &["room"],
+        &["room", "-", "4000"],
         &["soonest", "-"],
         &["soonest", "-", "x"],
         &["soonest", "-", "-1"],
@@ -269,15 +310,16 @@ fn wrong_arguments() {
 fn cases_and_answers() {
     let text = answer(&["cases"], b"");
     let printed = String::from_utf8(answer(&["answers", "-"], &text)).unwrap();
-    assert!(printed.starts_with("- line\n#"));
+    assert!(printed.starts_with("- line\nroom: 0 3 3 4 2\n#"));
     assert!(printed.contains("\n1,5,3,1: 0 1\n"));
     assert!(printed.contains("\njudge: 0 1 132 8, zero 132 132 132 132\n"));
     let row = b"- row\n1,1,1,1,0,0,0,0\n1,5,3,1\njudge\njudge 3,3,3,3\nmarks 4,3,3,3,3\n\
-        sheet_margin\nsheet_margin 3,3,3,3\nharm 3,3,3,3\nplan\nplan 0\nplan 9\nrounds\n\
+        sheet_margin\nsheet_margin 3,3,3,3\nharm 3,3,3,3\nplan\nplan 0\nplan 9\nrounds\nroom\n\
         soonest 0\nsoonest 0 3,3,3,3\nsoonest 1 3,4,5,6\nsoonest 1 2,3,3,3\n\
         judge_joint\njudge_joint 3,4,5,6\nmarks_joint 4,3,3,3,3\nwrite_joint 3,3,3,3,3\n\
         - loop\n1,2,2,4,4,0,0,0,0,0,0,0,0,0,0,1,0,0,0,1,2,1,1,1,1,1,2,1,0,2,0,2,2,1,2,0,2,2,2,2,3,0,0,0,2,2\n\
-        judge_joint 132,132,132,132\nmarks_joint 1,132,132,132,132\nwrite_joint 1\n";
+        judge_joint 132,132,132,132\nmarks_joint 1,132,132,132,132\nwrite_joint 1\n\
+        - mark 3\n3\nroom\n";
     let lent = String::from_utf8(answer(&["answers", "-", "2"], row)).unwrap();
     let lines: Vec<&str> = lent.lines().collect();
     assert_eq!(
@@ -295,6 +337,7 @@ fn cases_and_answers() {
             "plan 0: 9, out",
             "plan 9: 0 8, out 1,1,1,1,0,0,0,0,7",
             "rounds: 0 3 3",
+            "room: 0 3 3 4 2",
             "soonest 0: 8, zero 0 0 0 0",
             "soonest 0 3,3,3,3: 0 0, zero 3 3 3 3",
             "soonest 1 3,4,5,6: 16, zero 3 3 3 3",
@@ -307,6 +350,8 @@ fn cases_and_answers() {
             "judge_joint 132,132,132,132: 17, zero 132 132 132 132",
             "marks_joint 1,132,132,132,132: 17, zero 132 132 132 132, out 7",
             "write_joint 1: 8, zero 0 0 0 0, out 7",
+            "- mark 3",
+            "room: 3",
         ]
     );
 }

@@ -360,6 +360,41 @@ fn disjoint_models() {
     assert!(seen["one reset short"] >= 900 && seen["other walks"] >= 500);
 }
 
+/// Every size comes up once in 96 seeds, also if they are some way apart; with either
+/// mark, safe or not, padded or not, about as often.
+#[test]
+fn models_of_every_size() {
+    let size = |seed| {
+        let model = model(seed, "sizes");
+        (model.clocks, model.ceiling, model.locations.len())
+    };
+    let sizes: BTreeSet<_> = (96..192).map(size).collect();
+    assert_eq!(sizes.len(), 96);
+    let apart = |by: u64| (0..1_000).map(|at| size(by * at)).collect::<BTreeSet<_>>();
+    assert!([2, 27, 96].into_iter().all(|by| apart(by) == sizes));
+    let mut seen = Seen::new();
+    let mut states = BTreeSet::new();
+    for seed in 0..960 {
+        let bytes = generate(seed, "sizes").unwrap();
+        let Reading { mark, model } = read_plan(&bytes).unwrap();
+        states.insert(states_of(&model));
+        note(
+            &mut seen,
+            &[
+                ("mark 2", mark == 2),
+                ("safe", classify(&model) == Class::Safe),
+                ("drift", classify(&model) == Class::Drift),
+                ("plain", classify(&model) == Class::Plain),
+                ("padded", is_padded(&bytes)),
+            ],
+        );
+    }
+    println!("{seen:?}");
+    assert_eq!(states.len(), 89);
+    assert!((400..=560).contains(&seen["mark 2"]) && (400..=560).contains(&seen["padded"]));
+    assert!(seen["safe"] >= 250 && seen["drift"] >= 100 && seen["plain"] >= 250);
+}
+
 /// All header numbers come up, and marks above 2 as well as 0.
 #[test]
 fn refused_marks() {

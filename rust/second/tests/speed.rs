@@ -9,7 +9,7 @@ use second::limits::{MAX_CEILING, MAX_CLOCKS, MAX_LOCATIONS, MAX_STATES};
 use second::program::OUTPUT;
 use second::shortest_plan::shortest_plan;
 use second::{check_evidence, harm, judge, rounds, sheet_margin, soonest, write_evidence};
-use second::{judge_joint, marks_joint, read_plan, write_joint};
+use second::{judge_joint, marks_joint, read_plan, room, write_joint};
 use std::time::{Duration, Instant};
 
 fn within(limit: Duration, sizes: &[(usize, u32, usize, usize)], classes: &[Class]) {
@@ -82,4 +82,15 @@ fn the_largest() {
         &[(MAX_CLOCKS, MAX_CEILING.into(), MAX_LOCATIONS, MAX_STATES)],
         &[Class::Safe, Class::Drift, Class::Plain],
     );
+}
+
+/// Nothing is marked: a thousand largest models take less than one that is judged may.
+#[test]
+fn room_known_beforehand() {
+    let (clocks, ceiling) = (MAX_CLOCKS, MAX_CEILING.into());
+    let model = generate_sized(0, clocks, ceiling, MAX_LOCATIONS, Class::Drift);
+    assert!(room(&model).is_ok());
+    let begin = Instant::now();
+    assert!((0..1_000).all(|_| room(&model).is_ok_and(|room| room.states == MAX_STATES)));
+    assert!(begin.elapsed() < Duration::from_secs(2));
 }

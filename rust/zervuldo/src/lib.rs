@@ -1,9 +1,9 @@
 //! The command `zervuldo`: plans judged, checked, drawn and explained.
 //!
 //! Verdicts, evidence and its check, margins, the jumps within which harm comes,
-//! least times with perfect clocks and the shortest forms of plans are answers of
-//! the proved library (crate `drift`). What is found by code that is not proved
-//! is named so wherever it is told.
+//! least times with perfect clocks, the room to lend and the shortest forms of
+//! plans are answers of the proved library (crate `drift`). What is found by code
+//! that is not proved is named so wherever it is told.
 
 pub mod args;
 pub mod arrivals;

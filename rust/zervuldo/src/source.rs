@@ -46,7 +46,7 @@ impl Source {
         let Content { form, model, plan } =
             content_of(&self.file, &self.content).map_err(Failure::refused)?;
         // The call that needs no scratch: it reads the model as all of them do.
-        drift::margin(&model).map_err(|refusal| self.refused(refusal, plan.as_ref()))?;
+        drift::room(&model).map_err(|refusal| self.refused(refusal, plan.as_ref()))?;
         let plan = plan.map_err(|flaw| self.at_odds(&flaw.words))?;
         Ok((Accepted { plan, model }, form))
     }

@@ -57,7 +57,7 @@ fn marks_in_the_help() {
 }
 
 /// Wrong arguments, P standing for a plan, and what is said of them.
-const WRONG: [(&str, &str); 21] = [
+const WRONG: [(&str, &str); 24] = [
     ("", "zervuldo: judge the timing"),
     (
         "jugde P",
@@ -78,6 +78,9 @@ const WRONG: [(&str, &str); 21] = [
         "there is no option '--crystal' here",
     ),
     ("soonest none", "none: No such file"),
+    ("room", "too few arguments: it takes PLAN"),
+    ("room P P", "too many arguments: it takes PLAN"),
+    ("room P --unit 20ms", "there is no option '--unit' here"),
     ("completion P", "too many arguments: it takes none"),
     (
         "judge P --jsn",

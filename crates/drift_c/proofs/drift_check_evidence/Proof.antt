@@ -1,7 +1,7 @@
 -- `drift_c::drift_check_evidence` meets its contract.
 use mathlib.Core.Path.{ap, _∙_}
 use borrow.Author.Needs.{needs}
-use Rattle.drift_c.specs.Words.{checkWord}
+use Rattle.c_words.specs.Words.{checkWord}
 use Rattle.drift_c.proofs.drift_check_evidence.Statement.{statement}
 use Rattle.drift_c.proofs.drift_check_evidence.Tie as tie
 

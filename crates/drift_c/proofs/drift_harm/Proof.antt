@@ -4,7 +4,7 @@ use mathlib.Core.List.{List}
 use lib.ListN.{length}
 use borrow.Author.Needs.{needs}
 use Rattle.number.specs.Answer.{Answer}
-use Rattle.drift_c.specs.Words.{harmWord, harmOut}
+use Rattle.c_words.specs.Words.{harmWord, harmOut}
 use Rattle.drift_c.proofs.Fields.{harm-states}
 use Rattle.drift_c.proofs.drift_harm.Statement.{statement}
 use Rattle.drift_c.proofs.drift_harm.Tie as tie

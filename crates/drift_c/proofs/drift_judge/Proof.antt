@@ -1,6 +1,6 @@
 -- `drift_c::drift_judge` meets its contract.
 use mathlib.Core.Path.{ap, _∙_}
-use Rattle.drift_c.specs.Words.{judgeWord}
+use Rattle.c_words.specs.Words.{judgeWord}
 use Rattle.drift_c.proofs.Fields.{judge-fields}
 use borrow.Author.Needs.{needs}
 use Rattle.drift_c.proofs.drift_judge.Statement.{statement}

@@ -1,7 +1,7 @@
 -- `drift_c::drift_judge_joint` meets its contract.
 use mathlib.Core.Path.{ap, _∙_}
 use borrow.Author.Needs.{needs}
-use Rattle.drift_c.specs.Words.{judgeWord}
+use Rattle.c_words.specs.Words.{judgeWord}
 use Rattle.drift_c.proofs.Fields.{judge-joint-fields}
 use Rattle.drift_c.proofs.drift_judge_joint.Statement.{statement}
 use Rattle.drift_c.proofs.drift_judge_joint.Tie as tie

@@ -1,7 +1,7 @@
 -- `drift_c::drift_margin` meets its contract.
 use mathlib.Core.Path.{ap, _∙_}
 use borrow.Author.Needs.{needs}
-use Rattle.drift_c.specs.Words.{marginWord}
+use Rattle.c_words.specs.Words.{marginWord}
 use Rattle.drift_c.proofs.Fields.{margin-fields}
 use Rattle.drift_c.proofs.drift_margin.Statement.{statement}
 use Rattle.drift_c.proofs.drift_margin.Tie as tie

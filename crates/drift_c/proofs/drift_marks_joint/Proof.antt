@@ -1,7 +1,7 @@
 -- `drift_c::drift_marks_joint` meets its contract.
 use mathlib.Core.Path.{ap, _∙_}
 use borrow.Author.Needs.{needs}
-use Rattle.drift_c.specs.Words.{countWord}
+use Rattle.c_words.specs.Words.{countWord}
 use Rattle.drift_c.proofs.Fields.{marks-joint-fields}
 use Rattle.drift_c.proofs.drift_marks_joint.Statement.{statement}
 use Rattle.drift_c.proofs.drift_marks_joint.Tie as tie

@@ -1,7 +1,7 @@
 -- `drift_c::drift_next_number` meets its contract.
 use mathlib.Core.Path.{ap, _∙_}
 use borrow.Author.Needs.{needs}
-use Rattle.drift_c.specs.Words.{numberWord}
+use Rattle.c_words.specs.Words.{numberWord}
 use Rattle.drift_c.proofs.Fields.{small-value}
 use Rattle.drift_c.proofs.drift_next_number.Statement.{statement}
 use Rattle.drift_c.proofs.drift_next_number.Tie as tie

@@ -1,7 +1,7 @@
 -- `drift_c::drift_write_joint` meets its contract.
 use mathlib.Core.Path.{ap, _∙_}
 use borrow.Author.Needs.{needs}
-use Rattle.drift_c.specs.Words.{writeWord}
+use Rattle.c_words.specs.Words.{writeWord}
 use Rattle.drift_c.proofs.Fields.{write-joint-room}
 use Rattle.drift_c.proofs.drift_write_joint.Statement.{statement}
 use Rattle.drift_c.proofs.drift_write_joint.Tie as tie

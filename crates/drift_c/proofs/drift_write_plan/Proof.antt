@@ -1,6 +1,6 @@
 -- `drift_c::drift_write_plan` meets its contract.
 use mathlib.Core.Path.{ap, _∙_}
-use Rattle.drift_c.specs.Words.{countWord}
+use Rattle.c_words.specs.Words.{countWord}
 use Rattle.drift_c.proofs.Fields.{plan-room}
 use borrow.Author.Needs.{needs}
 use Rattle.drift_c.proofs.drift_write_plan.Statement.{statement}

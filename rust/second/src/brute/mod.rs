@@ -8,7 +8,7 @@
 //! trails and walks are compared as whole lists, and walks within a fringe
 //! lengthened step by step; least times are those of runs wait by wait; limits
 //! that blank stay fields mean, and spellings of a number and of a plan, are
-//! tried one by one.
+//! tried one by one; the room that a plan needs is filled and counted.
 
 pub mod check;
 pub mod harm;
@@ -16,6 +16,7 @@ pub mod joint;
 pub mod margin;
 pub mod read;
 pub mod regions;
+pub mod room;
 pub mod rounds;
 pub mod soonest;
 pub mod spellings;

@@ -44,6 +44,20 @@ fn is_region(whole: &[u32], rank: &[u32], ceiling: u32) -> bool {
     fractions == just && whole.iter().zip(rank).all(|(&w, &r)| w < ceiling || r == 0)
 }
 
+/// All regions as whole parts and ranks, ascending.
+pub fn all_regions(clocks: usize, ceiling: u32) -> Vec<(Vec<u32>, Vec<u32>)> {
+    let mut list = Vec::new();
+    for rank in all_lists(clocks, clocks as u32) {
+        for whole in all_lists(clocks, ceiling) {
+            if is_region(&whole, &rank, ceiling) {
+                list.push((whole, rank.clone()));
+            }
+        }
+    }
+    list.sort();
+    list
+}
+
 /// The whole points of the closure of a region: no clock leaves its unit,
 /// and fractions keep their order, though not strictly.
 fn whole_points(whole: &[u32], rank: &[u32], ceiling: u32) -> Corners {
@@ -77,15 +91,7 @@ impl NaiveRegions {
     }
 
     fn new(clocks: usize, ceiling: u32) -> NaiveRegions {
-        let mut list = Vec::new();
-        for rank in all_lists(clocks, clocks as u32) {
-            for whole in all_lists(clocks, ceiling) {
-                if is_region(&whole, &rank, ceiling) {
-                    list.push((whole, rank.clone()));
-                }
-            }
-        }
-        list.sort();
+        let list = all_regions(clocks, ceiling);
         let corners: Vec<Corners> = list
             .iter()
             .map(|(whole, rank)| whole_points(whole, rank, ceiling))

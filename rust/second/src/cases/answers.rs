@@ -1,7 +1,7 @@
 //! What the proved program prints for the text of cases.
 
 use super::{listed, MOST};
-use crate::calls::{check_evidence, harm, judge, marks, rounds, sheet_margin, soonest};
+use crate::calls::{check_evidence, harm, judge, marks, room, rounds, sheet_margin, soonest};
 use crate::calls::{judge_joint, marks_joint, write_joint, Judgement};
 use crate::calls::{states_of, write_evidence, write_plan, Harm, Scratch, SheetMargin};
 use crate::margin::by_drawing;
@@ -55,6 +55,7 @@ fn answer(model: &[u8], line: &str, length: usize) -> Result<String, String> {
         "sheet_margin" => sheet_margin_answer(model, scratch(0)),
         "harm" => harm_answer(model, scratch(0)),
         "rounds" => rounds_answer(model),
+        "room" => room_answer(model),
         "soonest" => soonest_answer(model, location, scratch(0))?,
         _ => {
             let evidence = bytes_of_text(line)?;
@@ -163,6 +164,10 @@ fn harm_answer(model: &[u8], scratch: Scratch) -> String {
 
 fn rounds_answer(model: &[u8]) -> String {
     told(rounds(model).map(|found| vec![found.rounds, found.marked]))
+}
+
+fn room_answer(model: &[u8]) -> String {
+    told(room(model).map(|found| vec![found.states, found.scratch, found.sheet, found.steps]))
 }
 
 fn soonest_answer(model: &[u8], location: &str, scratch: Scratch) -> Result<String, String> {

@@ -10,6 +10,7 @@ mod operations;
 mod padding;
 mod plans;
 mod reading;
+mod room;
 mod rounds;
 pub mod rules;
 mod soonest;
@@ -42,6 +43,7 @@ pub fn cases() -> String {
     soonest::soonest(&mut text);
     opening::opening(&mut text);
     joint::joint(&mut text);
+    room::room(&mut text);
     text.lines
 }
 
@@ -72,9 +74,24 @@ impl Text {
         self.note(what);
     }
 
+    /// Every plan, refused or not, is asked for its room.
     fn named(&mut self, name: &str, model: &[u8]) {
         self.line(&format!("- {name}"));
         self.bytes(model);
+        self.line("room");
+    }
+
+    /// The plans so far, each with its name.
+    fn plans(&self) -> Vec<(String, Vec<u8>)> {
+        let mut plans = Vec::new();
+        let mut lines = self.lines.lines();
+        while let Some(line) = lines.next() {
+            if let Some(name) = line.strip_prefix("- ") {
+                let plan = bytes_of_text(lines.next().unwrap_or("")).expect("a plan as a list");
+                plans.push((name.to_string(), plan));
+            }
+        }
+        plans
     }
 
     fn note(&mut self, what: &str) {

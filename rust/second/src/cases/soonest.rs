@@ -185,21 +185,14 @@ fn in_both_marks(text: &mut Text, name: &str, plan: &[u8]) {
 /// first of those that read alike.
 fn plans_so_far(text: &Text) -> Vec<(String, Vec<u8>)> {
     let mut models: Vec<Model> = Vec::new();
-    let mut plans = Vec::new();
-    let mut lines = text.lines.lines();
-    while let Some(line) = lines.next() {
-        let Some(name) = line.strip_prefix("- ") else {
-            continue;
-        };
-        let plan = bytes_of_text(lines.next().unwrap_or("")).expect("a plan as a list");
-        let has_ways = |model: &Model| model.locations.len() > 1 && !model.edges.is_empty();
-        match read_model(&plan) {
-            Ok(model) if has_ways(&model) && !models.contains(&model) => {
-                models.push(model);
-                plans.push((name.to_string(), plan));
-            }
-            _ => {}
+    let mut plans = text.plans();
+    let has_ways = |model: &Model| model.locations.len() > 1 && !model.edges.is_empty();
+    plans.retain(|(_, plan)| match read_model(plan) {
+        Ok(model) if has_ways(&model) && !models.contains(&model) => {
+            models.push(model);
+            true
         }
-    }
+        _ => false,
+    });
     plans
 }

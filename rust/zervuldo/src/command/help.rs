@@ -30,8 +30,8 @@ const PURPOSE: &str = "\
 Decides whether drift of the clocks, however slight, added up for ever, can \
 bring a ring into a forbidden location, and gives evidence that anyone can \
 check. Verdicts, evidence and its check, margins, the jumps before harm, least \
-times with perfect clocks and the shortest forms of plans are answers of a \
-proved library; what is not proved is named so.";
+times with perfect clocks, the room to lend and the shortest forms of plans are \
+answers of a proved library; what is not proved is named so.";
 
 const FILES: &str = "\
 PLAN, or OTHER, is a plan as text, as a list of numbers or as model bytes; \

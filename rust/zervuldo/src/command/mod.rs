@@ -11,6 +11,7 @@ mod explain;
 mod help;
 mod judge;
 mod report;
+mod room;
 mod shorten;
 mod soonest;
 mod words;
@@ -33,13 +34,14 @@ pub struct Command {
     run: fn(&Arguments) -> Result<Outcome, Failure>,
 }
 
-pub const COMMANDS: [&Command; 13] = [
+pub const COMMANDS: [&Command; 14] = [
     &judge::COMMAND,
     &check::COMMAND,
     &report::COMMAND,
     &draw::COMMAND,
     &words::COMMAND,
     &soonest::COMMAND,
+    &room::COMMAND,
     &encode::COMMAND,
     &decode::COMMAND,
     &shorten::COMMAND,

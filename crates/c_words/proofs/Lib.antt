@@ -1,0 +1,2 @@
+-- Words by cases of an answer.
+pub mod Words

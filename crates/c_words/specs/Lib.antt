@@ -1,0 +1,2 @@
+-- Answers as one number each.
+pub mod Words

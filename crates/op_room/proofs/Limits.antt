@@ -1,0 +1,35 @@
+-- The sheet limit that is computed is the paper's, for as many states as a number of three groups can be twice.
+use Prim.Native.Nat.{ℕ, _+_, _-_, _*_, _^_, _≤_, _<_}
+use native.Mathlib.Nat.{mul-le-mul-left}
+use native.Mathlib.Omega.{arith}
+use mathlib.Core.Path.{_≡_, refl, sym, ap, _∙_}
+use mathlib.Core.Logic.{_↔_}
+use mathlib.Core.List.{List}
+use lib.ListN.{length}
+use Rattle.number.specs.Number.{spell}
+use Rattle.number.specs.Shortest.{ShortestForm}
+use Rattle.number.proofs.Spelling.{spell-few, spell-grows}
+use Rattle.number.proofs.Shortest.{spell-is-shortest, shortest-length}
+use Rattle.op_room.specs.Room.{LongestForm, SheetLimit, sheetLimit}
+
+-- how long a shortest form is at most
+pub longest-form : (top : ℕ) → top < 2 ^ 21 → LongestForm top (length (spell top))
+longest-form top h = record {
+  met = (spell top, spell-is-shortest top h, refl);
+  longest = λ g v below s. omega (arith, shortest-length s, spell-grows v top below);
+}
+
+pub limit-law : (s limit : ℕ) → 2 * s ≤ 2 ^ 21 → SheetLimit s limit ↔ (limit ≡ sheetLimit s)
+unfolding sheetLimit
+limit-law s limit h = (
+  λ l. let (g, short, e) = l .each .met in l .sum ∙ ap (λ (k : ℕ). s * k + 1) (sym e ∙ shortest-length short),
+  λ e. record { bytes = length (spell (2 * s - 1)); each = longest-form (2 * s - 1) (omega arith); sum = e },
+)
+
+-- and no number of a sheet takes more than three bytes
+pub product-few : (s v : ℕ) → s * length (spell v) ≤ 3 * s
+product-few s v = omega (arith, mul-le-mul-left s (spell-few v))
+
+pub limit-few : (s : ℕ) → sheetLimit s ≤ 3 * s + 1
+unfolding sheetLimit
+limit-few s = omega (arith, product-few s (2 * s - 1))

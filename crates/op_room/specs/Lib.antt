@@ -1,0 +1,2 @@
+-- Room known beforehand.
+pub mod Room
