@@ -1,5 +1,5 @@
 -- All cases that 01 marks P hold of the definitions, and so do those of 02 (b) on padded evidence, (d) on rounds, (e) on least times, (f) on links that
--- never open and (g) on joint resets: computed, in one test.
+-- never open, (g) on joint resets and (h) on room: computed, in one test.
 use mathlib.Core.Path.{_≡_, refl}
 use mathlib.Core.Bool.{true}
 use Rattle.theory.specs.Below.{tab, any, all, count, least, top}
@@ -44,10 +44,11 @@ use Rattle.op_judge.specs.Judge.{countOf, verdict, judged}
 use Rattle.op_judge_joint.specs.JudgeJoint.{jointJudged}
 use Rattle.evidence_writer.specs.Written.{evidenceBy}
 use Rattle.op_check.specs.Check.{evidenceAnswer, checkAnswer}
+use Rattle.op_room.specs.Room.{sheetLimit, roomFor, roomAnswer}
 use Rattle.op_soonest.specs.Sounding.{unreached, soonestRefusal, soonestAnswer}
-use Rattle.demands.specs.Bench.{samePoints, holds, bench, paddedBench, roundsBench, soonestBench, openingBench, jointBench}
+use Rattle.demands.specs.Bench.{samePoints, holds, bench, paddedBench, roundsBench, soonestBench, openingBench, jointBench, roomBench}
 
 pub bench-holds : (every holds bench ≡ true) × (every holds paddedBench ≡ true) × (every holds roundsBench ≡ true) × (every holds soonestBench ≡ true)
-    × (every holds openingBench ≡ true) × (every holds jointBench ≡ true)
-unfolding holds bench paddedBench roundsBench soonestBench openingBench jointBench judged countOf verdict jointJudged jointRefusal lacksJointReset withTouch labelledWithTouch evidenceBy ourMove leastLabel moveNumbers soonestAnswer soonestRefusal unreached timeTo soonest later leads rounds mark distanceTo count samePoints same regions lawful fits attains corners hasCorner face shares allowed guardHolds regionCount locationOf regionOf sameRegion indexIn numberOf allowedState stateAt timeFrom jumpFrom stepFrom beside flowTest systemOf labelledOf tab any all least top exact within dist greedy reach onClosedWalk step marks unsafe under chain height keeps number ourSheet trailSteps trailStates opens movesAlong ourMoves readEvidence readSpelled readNumber spell spellAll each fieldAt kindAt invariantAt endsAt guardAt resolved parseBody parseCounts parseModel markEdge roundOf survivors hasCycle opensAlone unreset readModel automatonOf numberKeeps numbersFrom sheetRefusal movesNumbers trailNumbers run flowTo labelAt walkStep closedWalk numbersAt faceTo touchTo trailStep trailAnswer ofKind checked ourSheetNumbers ourTrailNumbers ourEvidence answer enough refusal evidenceAnswer checkAnswer
-bench-holds = (refl, refl, refl, refl, refl, refl)
+    × (every holds openingBench ≡ true) × (every holds jointBench ≡ true) × (every holds roomBench ≡ true)
+unfolding holds bench paddedBench roundsBench soonestBench openingBench jointBench roomBench roomAnswer roomFor sheetLimit judged countOf verdict jointJudged jointRefusal lacksJointReset withTouch labelledWithTouch evidenceBy ourMove leastLabel moveNumbers soonestAnswer soonestRefusal unreached timeTo soonest later leads rounds mark distanceTo count samePoints same regions lawful fits attains corners hasCorner face shares allowed guardHolds regionCount locationOf regionOf sameRegion indexIn numberOf allowedState stateAt timeFrom jumpFrom stepFrom beside flowTest systemOf labelledOf tab any all least top exact within dist greedy reach onClosedWalk step marks unsafe under chain height keeps number ourSheet trailSteps trailStates opens movesAlong ourMoves readEvidence readSpelled readNumber spell spellAll each fieldAt kindAt invariantAt endsAt guardAt resolved parseBody parseCounts parseModel markEdge roundOf survivors hasCycle opensAlone unreset readModel automatonOf numberKeeps numbersFrom sheetRefusal movesNumbers trailNumbers run flowTo labelAt walkStep closedWalk numbersAt faceTo touchTo trailStep trailAnswer ofKind checked ourSheetNumbers ourTrailNumbers ourEvidence answer enough refusal evidenceAnswer checkAnswer
+bench-holds = (refl, refl, refl, refl, refl, refl, refl)

@@ -294,7 +294,7 @@ module _ (bytes lent : List ℕ) where
         (simp (taken, passed) (rw (same-verdict, sheet-same n) refl), simp (taken, passed) (rw (sheet-same n) refl))
 
     module _ (f : ForbiddenMarked a) where
-      unsafe-without : unsafe (withoutTouch Y) ≡ true
+      pub unsafe-without : unsafe (withoutTouch Y) ≡ true
       unsafe-without = same-verdict ∙ unsafe-states m ok .1 f
 
       laws-without : Laws (withoutTouch Y)

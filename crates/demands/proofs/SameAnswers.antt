@@ -29,6 +29,7 @@ use Rattle.op_marks_joint.specs.MarksJoint.{jointMarksRefusal, jointMarked, joi
 use Rattle.op_write_joint.specs.WriteJoint.{jointWriteAnswer, jointWriteOutput}
 use Rattle.op_plan.specs.Plan.{planAnswer, planOutput}
 use Rattle.op_margin.specs.Margin.{marginAnswer}
+use Rattle.op_room.specs.Room.{roomFor, roomAnswer}
 use Rattle.op_sheet_margin.specs.SheetMargin.{boundValues, sheetMarginAnswer}
 use Rattle.op_harm.specs.Harm.{harmValues, harmAnswer}
 use Rattle.least_time.specs.LeastTime.{leastTime}
@@ -52,7 +53,7 @@ module _ (bs cs : List ℕ) where
     seen-joint f = seen (λ k n. f (cond (eqb k 0) (disjoint n) k) n)
 
     pub same-timed : SameTimed bs cs
-    unfolding jointJudged jointMarksRefusal jointMarked jointOutput jointWriteAnswer jointWriteOutput judged marksRefusal marked output checkAnswer writeAnswer writeOutput marginAnswer sheetMarginAnswer harmAnswer soonestRefusal soonestAnswer left
+    unfolding jointJudged jointMarksRefusal jointMarked jointOutput jointWriteAnswer jointWriteOutput judged marksRefusal marked output checkAnswer writeAnswer writeOutput marginAnswer roomAnswer sheetMarginAnswer harmAnswer soonestRefusal soonestAnswer left
     same-timed =
         record {
           judge = seen (λ k n. answer k (verdict (systemOfModel n)));
@@ -67,6 +68,7 @@ module _ (bs cs : List ℕ) where
           write-joint = λ lent room. seen-joint (λ k n. cond (eqb k 0) (writtenAnswer (writtenBy false n room)) (answer k [])) lent;
           write-joint-output = λ lent out. seen-joint (λ k n. cond (eqb k 0) (filled (evidenceBy false n) out) out) lent;
           margin = ap₂ (λ (k : ℕ) (n : Model). answer k (states n ∷ margin (automatonOf n) (n .locations) ∷ [])) r m;
+          room = ap₂ (λ (k : ℕ) (n : Model). answer k (roomFor (states n))) r m;
           sheet-margin = seen (λ k n. answer k (boundValues n));
           harm = seen (λ k n. answer k (harmValues n));
           soonest = λ l. seen (λ k n. answer (cond (eqb k 0) (unreached n l) k) (leastTime n l ∷ []));

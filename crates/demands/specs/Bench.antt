@@ -1,8 +1,8 @@
 -- The plans on 01's bench: all cases marked P as one list, each with the test that it stands for, by the definitions that the contracts cite.
-use Prim.Native.Nat.{ℕ}
+use Prim.Native.Nat.{ℕ, _+_, _*_}
 use mathlib.Core.Bool.{Bool, true, false, _&&_}
 use mathlib.Core.List.{List, [], _∷_}
-use lib.ListN.{length, take}
+use lib.ListN.{length, take, replicate}
 use lib.Dec.{eqb}
 use Rattle.theory.specs.Below.{count}
 use Rattle.theory.specs.Lists.{same}
@@ -16,6 +16,7 @@ use Rattle.call.specs.Call.{modelOf}
 use Rattle.op_check.specs.Check.{checkAnswer}
 use Rattle.op_judge.specs.Judge.{judged}
 use Rattle.op_judge_joint.specs.JudgeJoint.{jointJudged}
+use Rattle.op_room.specs.Room.{roomAnswer}
 use Rattle.op_soonest.specs.Sounding.{soonestAnswer}
 use Rattle.evidence_writer.specs.Written.{evidenceBy}
 
@@ -39,6 +40,8 @@ pub data Case : Type 0 where
   joint-gives : List ℕ → ℕ → List ℕ → Case
   -- a model: our evidence without touch
   joint-is : List ℕ → List ℕ → Case
+  -- a model: the number and the values that the call for its room returns
+  room-gives : List ℕ → ℕ → List ℕ → Case
 
 -- points in the same order
 unfoldable pub samePoints : List (List ℕ) → List (List ℕ) → Bool
@@ -66,6 +69,7 @@ holds (soonest-gives model l r vs) =
 holds (judge-gives model r vs) = eqb (judged model buffers .number) r && same (judged model buffers .values) vs
 holds (joint-gives model r vs) = eqb (jointJudged model buffers .number) r && same (jointJudged model buffers .values) vs
 holds (joint-is model shown) = same (evidenceBy false (modelOf model)) shown
+holds (room-gives model r vs) = eqb (roomAnswer model .number) r && same (roomAnswer model .values) vs
 
 -- "model 1,1,1,1,0,0,0,0", with its kind
 abbrev pub tiny : ℕ → List ℕ
@@ -226,4 +230,28 @@ jointBench =
     ∷ joint-gives longer 0 (1 ∷ 10 ∷ 5 ∷ [])
     ∷ joint-is longer (2 ∷ 5 ∷ 0 ∷ 0 ∷ 0 ∷ 0 ∷ 1 ∷ 1 ∷ [])
     ∷ joint-gives (pair 1 2) 17 []
+    ∷ []
+
+-- so many clocks, a ceiling, so many ordinary locations without a limit or an edge
+abbrev pub plain : ℕ → ℕ → ℕ → List ℕ
+plain n M L = 1 ∷ n ∷ M ∷ L ∷ 0 ∷ 0 ∷ replicate (L * (n + 1)) 0
+
+-- 02 (h): "S and scratch are exact; the sheet limit is the sum of the longest shortest-form spelling of 2S-1 over S numbers, plus one; the step limit is S-1"
+unfoldable pub roomBench : List Case
+roomBench =
+    room-gives (tiny 0) 0 (3 ∷ 3 ∷ 4 ∷ 2 ∷ [])
+    -- the verdict plays no part
+    ∷ room-gives (tiny 1) 0 (3 ∷ 3 ∷ 4 ∷ 2 ∷ [])
+    ∷ room-gives loopBytes 0 (132 ∷ 132 ∷ 265 ∷ 131 ∷ [])
+    -- as near as plans come to where 2S-1 takes a byte more, which is after S = 64 and S = 8,192
+    ∷ room-gives (plain 1 4 7) 0 (63 ∷ 63 ∷ 64 ∷ 62 ∷ [])
+    ∷ room-gives (plain 2 2 2) 0 (66 ∷ 66 ∷ 133 ∷ 65 ∷ [])
+    ∷ room-gives (plain 1 4 8) 0 (72 ∷ 72 ∷ 145 ∷ 71 ∷ [])
+    ∷ room-gives (plain 3 4 4) 0 (7908 ∷ 7908 ∷ 15817 ∷ 7907 ∷ [])
+    ∷ room-gives (plain 3 4 5) 0 (9885 ∷ 9885 ∷ 29656 ∷ 9884 ∷ [])
+    -- nothing is lent, so no plan is too large
+    ∷ room-gives (plain 3 4 8) 0 (15816 ∷ 15816 ∷ 47449 ∷ 15815 ∷ [])
+    -- "A refused model gets its number from 1 to 7 instead"
+    ∷ room-gives [] 1 []
+    ∷ room-gives (link 1) 7 []
     ∷ []

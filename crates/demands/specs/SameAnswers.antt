@@ -12,11 +12,12 @@ use Rattle.op_marks_joint.specs.MarksJoint.{jointMarked, jointOutput}
 use Rattle.op_write_joint.specs.WriteJoint.{jointWriteAnswer, jointWriteOutput}
 use Rattle.op_plan.specs.Plan.{planAnswer, planOutput}
 use Rattle.op_margin.specs.Margin.{marginAnswer}
+use Rattle.op_room.specs.Room.{roomAnswer}
 use Rattle.op_sheet_margin.specs.SheetMargin.{sheetMarginAnswer}
 use Rattle.op_harm.specs.Harm.{harmAnswer}
 use Rattle.op_soonest.specs.Sounding.{soonestAnswer}
 
--- as models these bytes give the same verdict, marks, evidence, check, margins, times and scratch: all that the timing decides
+-- as models these bytes give the same verdict, marks, evidence, check, margins, room, times and scratch: all that the timing decides
 pub record SameTimed (bs cs : List ℕ) : Type 0 where
   pub judge : (lent : List ℕ) → judged bs lent ≡ judged cs lent
   pub marks : (lent : List ℕ) (room : ℕ) → marked bs lent room ≡ marked cs lent room
@@ -30,6 +31,7 @@ pub record SameTimed (bs cs : List ℕ) : Type 0 where
   pub write-joint : (lent : List ℕ) (room : ℕ) → jointWriteAnswer bs lent room ≡ jointWriteAnswer cs lent room
   pub write-joint-output : (lent out : List ℕ) → jointWriteOutput bs lent out ≡ jointWriteOutput cs lent out
   pub margin : marginAnswer bs ≡ marginAnswer cs
+  pub room : roomAnswer bs ≡ roomAnswer cs
   pub sheet-margin : (lent : List ℕ) → sheetMarginAnswer bs lent ≡ sheetMarginAnswer cs lent
   pub harm : (lent : List ℕ) → harmAnswer bs lent ≡ harmAnswer cs lent
   pub soonest : (l : ℕ) (lent : List ℕ) → soonestAnswer bs l lent ≡ soonestAnswer cs l lent

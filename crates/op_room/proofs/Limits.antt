@@ -27,9 +27,9 @@ limit-law s limit h = (
 )
 
 -- and no number of a sheet takes more than three bytes
-pub product-few : (s v : ℕ) → s * length (spell v) ≤ 3 * s
-product-few s v = omega (arith, mul-le-mul-left s (spell-few v))
+pub product-few : (s k v : ℕ) → k ≡ length (spell v) → s * k ≤ 3 * s
+product-few s k v e = omega (arith, mul-le-mul-left s (spell-few v), ap (λ (n : ℕ). s * n) e)
 
 pub limit-few : (s : ℕ) → sheetLimit s ≤ 3 * s + 1
 unfolding sheetLimit
-limit-few s = omega (arith, product-few s (2 * s - 1))
+limit-few s = omega (arith, product-few s _ (2 * s - 1) refl)

@@ -397,8 +397,10 @@ fn the_longest_trails() {
                 assert_eq!(count, told.states - regions, "{plan:?}");
                 assert!(count <= told.steps);
             }
-            let bytes = evidence(&plan).len();
-            longer += usize::from(bytes > told.sheet);
+            let too_long = evidence(&plan).len() > told.sheet;
+            let refusals = [too_long.then_some(9); 2];
+            assert_eq!(writers(&plan, told.scratch, told.sheet), refusals);
+            longer += usize::from(too_long);
         }
     }
     assert!(longer >= 5, "{longer}");

@@ -15,17 +15,17 @@ enum-known-answer c = search needs
 mul-result : tie.Need-mul-result
 unfolding spaceAnswer
 mul-result c =
-    let f = subst (λ (t : Space). Fields (spaceAnswer t)) (c .before .answer .given .1) (c .before .before .before .pre) in omega (arith, f .fit 0, f .fit 2)
+    let f = subst (λ (t : Space). Fields (spaceAnswer t)) (c .before .answer .given .1) (c .before .before .before .pre) in omega (arith, f .fit 0, f .fit 1, f .fit 2)
 
 mul-result-2 : tie.Need-mul-result-2
 unfolding spaceAnswer
 mul-result-2 c =
-    let f = subst (λ (t : Space). Fields (spaceAnswer t)) (c .before .answer .given .1) (c .before .before .before .pre) in omega (arith, f .fit 0, f .fit 2)
+    let f = subst (λ (t : Space). Fields (spaceAnswer t)) (c .before .answer .given .1) (c .before .before .before .pre) in omega (arith, f .fit 0, f .fit 1, f .fit 2)
 
 add-result : tie.Need-add-result
 unfolding spaceAnswer
 add-result c =
-    let f = subst (λ (t : Space). Fields (spaceAnswer t)) (c .before .answer .given .1) (c .before .before .before .pre) in omega (arith, f .fit 0, f .fit 2)
+    let f = subst (λ (t : Space). Fields (spaceAnswer t)) (c .before .answer .given .1) (c .before .before .before .pre) in omega (arith, f .fit 0, f .fit 1, f .fit 2)
 
 enum-known-answer-2 : tie.Need-enum-known-answer-2
 enum-known-answer-2 c = search needs

@@ -24,7 +24,7 @@ sheet-limit-requires c κs =
 sub-t7 : tie.Need-sub-t7
 sub-t7 c =
     let read = c .before .before .before .read-model in
-    rw (c .before .state-count .ensures) (states-within _ (reading-lawful _ (read .result) (read .ensures) (omega arith)) .0)
+    omega (arith, c .before .state-count .ensures, states-within _ (reading-lawful _ (read .result) (read .ensures) (omega arith)) .0)
 
 returns-2 : tie.Need-returns-2
 returns-2 c =

@@ -1,10 +1,8 @@
 -- `op_room::sheet_limit` meets its contract.
-use Prim.Native.Nat.{ℕ, _+_, _-_, _*_}
+use Prim.Native.Nat.{ℕ, _+_, _*_}
 use native.Mathlib.Omega.{arith}
-use mathlib.Core.Path.{_≡_, ap}
-use lib.ListN.{length}
+use mathlib.Core.Path.{ap}
 use borrow.Author.Needs.{needs}
-use Rattle.number.specs.Number.{spell}
 use Rattle.op_room.specs.Room.{sheetLimit}
 use Rattle.op_room.proofs.Limits.{product-few}
 use Rattle.op_room.proofs.sheet_limit.Statement.{statement}
@@ -23,14 +21,10 @@ shortest-length-requires : tie.Need-shortest-length-requires
 shortest-length-requires c κs = search needs
 
 mul-result : tie.Need-mul-result
-mul-result c =
-    let s = c .before .args .s in
-    omega (arith, product-few s (2 * s - 1), ap (λ (k : ℕ). s * k) (c .shortest-length .ensures))
+mul-result c = omega (arith, product-few (c .before .args .s) _ _ (c .shortest-length .ensures))
 
 add-result : tie.Need-add-result
-add-result c =
-    let s = c .before .args .s in
-    omega (arith, product-few s (2 * s - 1), ap (λ (k : ℕ). s * k) (c .shortest-length .ensures))
+add-result c = omega (arith, product-few (c .before .args .s) _ _ (c .shortest-length .ensures))
 
 returns : tie.Need-returns
 unfolding sheetLimit

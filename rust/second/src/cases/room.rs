@@ -57,8 +57,9 @@ fn slices(length: usize, short: Option<usize>) -> String {
 /// output or of a slice.
 fn lent(text: &mut Text, plan: &[u8]) {
     let told = room_of(plan).expect("an accepted plan");
-    let last = format!("soonest {}", plan[3] - 1);
-    let alone = ["judge", "sheet_margin", "harm", &last, "judge_joint"];
+    let locations = read_model(plan).map_or(0, |model| model.locations.len());
+    let soonest = format!("soonest {}", locations - 1);
+    let alone = ["judge", "sheet_margin", "harm", &soonest, "judge_joint"];
     for (at, operation) in alone.into_iter().enumerate() {
         for short in [None, Some(at % 4)] {
             text.line_with_scratch(operation, &slices(told.scratch, short));
