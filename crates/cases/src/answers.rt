@@ -6,6 +6,7 @@ use drift::Evidence;
 use drift::Judgement;
 use drift::Marking;
 use drift::Onset;
+use drift::Space;
 use drift::Stored;
 use drift::Tolerance;
 use drift::Written;
@@ -61,6 +62,15 @@ pub fn of_tolerance(found: Tolerance) -> Answer {
     match found {
         Tolerance::Bound(states, margin) => Answer::Two(states, margin as usize),
         Tolerance::Refused(number) => Answer::Refused(number),
+    }
+}
+
+pub fn of_space(found: Space) -> Answer {
+    match found {
+        Space::Needs(states, scratch, sheet, steps) => {
+            Answer::Four(states, scratch, sheet as u64, steps as u64)
+        }
+        Space::Refused(number) => Answer::Refused(number),
     }
 }
 

@@ -1,9 +1,9 @@
 // Cases of the public operations as data. On standard input a line that begins with '-' announces a plan, whose bytes stand on the next line, set
 // apart by commas as 01 writes them. Each line after it is a case of that plan: `judge`, `marks`, `write`, the same with `_joint` behind them,
-// `plan`, `sheet_margin` and `harm` with the lengths of what they are lent, `soonest` with a location and then the lengths, `margin`, `rounds`, or
-// else the bytes of a piece of evidence, an empty line too. A line that begins with '#' is a comment. All but the plans' bytes is written back, a
-// case with its answer behind it: 01's number and values; how many numbers of each scratch slice are zero then; and the output. `rounds` is no public
-// operation: its values are the rounds of the marking and the marked states.
+// `plan`, `sheet_margin` and `harm` with the lengths of what they are lent, `soonest` with a location and then the lengths, `margin`, `room`,
+// `rounds`, or else the bytes of a piece of evidence, an empty line too. A line that begins with '#' is a comment. All but the plans' bytes is
+// written back, a case with its answer behind it: 01's number and values; how many numbers of each scratch slice are zero then; and the output.
+// `rounds` is no public operation: its values are the rounds of the marking and the marked states.
 mod answers;
 mod counting;
 mod lent;
@@ -19,6 +19,7 @@ use answers::of_evidence;
 use answers::of_judgement;
 use answers::of_marking;
 use answers::of_onset;
+use answers::of_space;
 use answers::of_stored;
 use answers::of_tolerance;
 use answers::of_written;
@@ -132,6 +133,7 @@ fn answer(plan: &[u8], line: &[u8]) {
     let operation = operation_of(line);
     match operation {
         Operation::Margin => show_answer(of_tolerance(drift::margin(plan))),
+        Operation::Room => show_answer(of_space(drift::room(plan))),
         Operation::Check => check(plan, line),
         Operation::Plan => shorten(plan, line),
         Operation::Rounds => show_answer(rounds(plan)),

@@ -14,6 +14,7 @@ pub enum Operation {
     Harm,
     Soonest,
     Plan,
+    Room,
     Rounds,
     Check,
 }
@@ -40,7 +41,15 @@ fn of_write(line: &[u8]) -> Operation {
     Operation::Write
 }
 
-// By the first letter; `sheet_margin` or `soonest` by the second, `marks` or `margin` by the fourth. A piece of evidence has none.
+fn of_round(line: &[u8]) -> Operation {
+    if letter(line, 2) == b'o' {
+        return Operation::Room;
+    }
+    Operation::Rounds
+}
+
+// By the first letter; `sheet_margin` or `soonest` by the second, `room` or `rounds` by the third, `marks` or `margin` by the fourth. A piece of
+// evidence has none.
 pub fn operation_of(line: &[u8]) -> Operation {
     let first = letter(line, 0);
     if first == b'j' {
@@ -63,7 +72,7 @@ pub fn operation_of(line: &[u8]) -> Operation {
         return Operation::Plan;
     }
     if first == b'r' {
-        return Operation::Rounds;
+        return of_round(line);
     }
     if first != b'm' {
         return Operation::Check;

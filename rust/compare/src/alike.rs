@@ -39,7 +39,7 @@ fn call<T>(
 }
 
 /// What both answer.
-fn same<T: PartialEq + Debug>(wanted: T, got: T) -> Result<T, String> {
+pub fn same<T: PartialEq + Debug>(wanted: T, got: T) -> Result<T, String> {
     if wanted == got {
         Ok(wanted)
     } else {

@@ -12,6 +12,7 @@ mod memory;
 mod pieces;
 mod plans;
 mod remarked;
+mod room;
 mod rows;
 mod soonest;
 mod tally;
@@ -23,6 +24,7 @@ use memory::{length_near, rooms, Lent};
 use pieces::{pieces, Others};
 use plans::plans_alike;
 use remarked::remarked_alike;
+use room::{room_alike, within_limit};
 use rows::long;
 use second::generate::{generate, KINDS};
 use second::random::Random;
@@ -122,6 +124,8 @@ fn agree(
         tally.edges(model);
     }
     let states = read.map_or(20, |model| second::calls::states_of(&model));
+    let told =
+        room_alike(model, random, tally).map_err(|what| about_model(format!("room: {what}")))?;
     answered(model, random, states, tally).map_err(about_model)?;
     soonest_all_alike(model, random, states, tally).map_err(about_model)?;
     plans_alike(model, random, tally).map_err(|what| about_model(format!("plan: {what}")))?;
@@ -144,7 +148,9 @@ fn agree(
     }
     for (label, evidence) in pieces {
         let lent = Lent::near(random, states);
-        let checked = numbers_alike(&evidence).and_then(|()| check_alike(model, &evidence, &lent));
+        let checked = numbers_alike(&evidence)
+            .and_then(|()| check_alike(model, &evidence, &lent))
+            .and_then(|checked| within_limit(&told, &evidence, checked, tally));
         tally.checked(
             label,
             checked.map_err(|what| Difference {

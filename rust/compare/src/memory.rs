@@ -43,10 +43,15 @@ fn dirty(random: &mut Random, length: usize) -> Vec<Word> {
 }
 
 impl Lent {
+    /// Slices of these lengths.
+    pub fn of(random: &mut Random, lengths: [usize; 4]) -> Lent {
+        let before = lengths.map(|length| dirty(random, length + 2 * MARGIN));
+        Lent { before }
+    }
+
     /// Slices of just so many numbers.
     pub fn enough(random: &mut Random, states: usize) -> Lent {
-        let before = std::array::from_fn(|_| dirty(random, states + 2 * MARGIN));
-        Lent { before }
+        Lent::of(random, [states; 4])
     }
 
     /// Slices for so many states; some are shorter or longer.

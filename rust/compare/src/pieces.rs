@@ -4,7 +4,9 @@
 use second::calls::evidence_of;
 use second::components::Components;
 use second::graph::Graph;
+use second::marking::marked_set;
 use second::mutate::{mutate, mutate_as};
+use second::numbers::shortest;
 use second::other::{other_sheet, other_trail, stray_trail};
 use second::random::Random;
 
@@ -78,7 +80,10 @@ pub fn pieces(model: &[u8], random: &mut Random, others: &mut Others) -> (usize,
 /// Evidence that is not ours: it passes, or is a trail that at least replays.
 fn passing(random: &mut Random, graph: &Graph) -> Vec<Piece> {
     let components = Components::new(graph);
-    let mut pieces = vec![("stray trail", stray_trail(random, graph, &components))];
+    let mut pieces = vec![
+        ("stray trail", stray_trail(random, graph, &components)),
+        ("tall sheet", tall_sheet(graph, &components)),
+    ];
     for _ in 0..2 {
         let sheet = other_sheet(random, graph, &components);
         pieces.extend(sheet.map(|bytes| ("other sheet", bytes)));
@@ -86,6 +91,20 @@ fn passing(random: &mut Random, graph: &Graph) -> Vec<Piece> {
         pieces.extend(trail.map(|bytes| ("other trail", bytes)));
     }
     pieces
+}
+
+/// The marked states in, each height raised as far as the highest can be: the
+/// longest of such sheets. It passes where the plan is safe.
+fn tall_sheet(graph: &Graph, components: &Components) -> Vec<u8> {
+    let marked = marked_set(graph, components);
+    let highest = components.height.iter().max().expect("there are states");
+    let by = graph.states() as u32 - 1 - highest;
+    let number = |state: usize| match graph.allowed[state] {
+        true => 2 * (components.height[state] + by) + u32::from(marked[state]),
+        false => 0,
+    };
+    let numbers = (0..graph.states()).map(number);
+    shortest(&[1].into_iter().chain(numbers).collect::<Vec<u32>>())
 }
 
 /// Changes of ours, of what passes, and changes of changes.

@@ -3,7 +3,7 @@
 use second::dead_links::{has_dead_edge, is_refused_by_all_edges};
 use second::model::Model;
 use second::refusal::{LAST, NEVER_THERE, NO_JOINT_RESET, OUTPUT_TOO_SHORT, SCRATCH_TOO_SHORT};
-use second::{Harm, Judgement, SheetMargin};
+use second::{Harm, Judgement, Room, SheetMargin};
 use std::collections::BTreeMap;
 use std::fmt;
 
@@ -121,6 +121,36 @@ impl fmt::Display for Times {
     }
 }
 
+/// Rooms told, by the number of states, and refused; sheets that pass, those of
+/// them that are as long as the limit, and of these those whose numbers take more
+/// than a byte.
+#[derive(Default)]
+struct Rooms {
+    states: BTreeMap<usize, u64>,
+    refused: [u64; SCRATCH_TOO_SHORT as usize],
+    sheets: u64,
+    at_limit: u64,
+    at_wide_limit: u64,
+}
+
+impl fmt::Display for Rooms {
+    fn fmt(&self, f: &mut fmt::Formatter) -> fmt::Result {
+        write!(
+            f,
+            "rooms: {} for {} numbers of states up to {}, refused 1 to 7 {:?}; of {} \
+             sheets that pass {} are as long as the limit, {} of them with two or three bytes a \
+             number",
+            self.states.values().sum::<u64>(),
+            self.states.len(),
+            self.states.keys().last().unwrap_or(&0),
+            &self.refused[1..],
+            self.sheets,
+            self.at_limit,
+            self.at_wide_limit
+        )
+    }
+}
+
 #[derive(Default)]
 pub struct Tally {
     /// Safe and unsafe models.
@@ -131,6 +161,7 @@ pub struct Tally {
     marked: BTreeMap<u32, Marked>,
     shut: Shut,
     joint: Joint,
+    rooms: Rooms,
     plans: Plans,
     margins: Margins,
     harms: Harms,
@@ -173,6 +204,21 @@ impl Tally {
             (Err(NO_JOINT_RESET), _) => self.joint.refused += 1,
             _ => {}
         }
+    }
+
+    pub fn room(&mut self, answer: &Result<Room, u8>) {
+        match answer {
+            Ok(room) => *self.rooms.states.entry(room.states).or_default() += 1,
+            Err(refusal) => self.rooms.refused[usize::from(*refusal)] += 1,
+        }
+    }
+
+    /// A sheet that passes, of so many bytes, by the limit that was told.
+    pub fn limit(&mut self, room: &Room, bytes: usize) {
+        let at_limit = bytes == room.sheet;
+        self.rooms.sheets += 1;
+        self.rooms.at_limit += u64::from(at_limit);
+        self.rooms.at_wide_limit += u64::from(at_limit && bytes > room.states + 1);
     }
 
     /// An accepted model by its edges.
@@ -278,6 +324,7 @@ impl fmt::Display for Tally {
             "  with joint resets: safe {safe}, unsafe {is_unsafe}, of which {longer} have a longer \
              trail without touch; refused 17: {refused}"
         )?;
+        writeln!(f, "{}", self.rooms)?;
         writeln!(f, "plans in shortest form: {}", self.plans)?;
         let Margins { count, greatest } = &self.margins;
         writeln!(f, "margins: {count}, greatest {greatest}")?;

@@ -88,6 +88,17 @@ fn fields_of_an_answer() {
     assert_eq!(whole, greatest);
 }
 
+/// As document 02 has it, whatever the verdict; a refused plan gets its number.
+#[test]
+fn room_known_beforehand() {
+    let told = |model: &[u8]| room(model).map(|it| [it.states, it.scratch, it.sheet, it.steps]);
+    assert_eq!(told(&ROW), Ok([3, 3, 4, 2]));
+    assert_eq!(told(&FORBIDDEN), Ok([3, 3, 4, 2]));
+    assert_eq!(told(&LOOP), Ok([LOOP_STATES, LOOP_STATES, 265, 131]));
+    assert_eq!(told(&UNRESET), Err(ClockUnreset));
+    assert_eq!(told(&[]), Err(EndsTooSoon));
+}
+
 #[test]
 fn a_sheet_is_written() {
     writes(&ROW, 3, Verdict::Safe, &ROW_SHEET);

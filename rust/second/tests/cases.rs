@@ -564,12 +564,15 @@ fn seen_of(told: &Room, line: &str, number: &str) -> Vec<String> {
 
 /// Each operation is lent just the scratch that is told, and a number less in one slice
 /// alone, the judge in each of them; those that write just the output, and a byte less.
+/// All this with the plans that are there for it, of which the first has 63 states.
 #[test]
 fn room_is_lent_as_told() {
     let mut seen: BTreeSet<String> = BTreeSet::new();
-    let mut cases = all_answered();
-    cases.retain(|(_, line, _)| is_operation(line) && !line.starts_with("plan"));
-    for (model, line, answer) in cases {
+    let is_first = |(model, _, _): &Case| room(model).is_ok_and(|told| told.states == 63);
+    let all = all_answered()
+        .into_iter()
+        .skip_while(|case| !is_first(case));
+    for (model, line, answer) in all.filter(|(_, line, _)| is_operation(line)) {
         if let Ok(told) = room(&model) {
             let number = answer.split([' ', ',']).next().unwrap();
             seen.extend(seen_of(&told, &line, number));

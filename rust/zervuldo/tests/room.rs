@@ -84,7 +84,14 @@ fn outputs_that_fail() {
 /// the trail's bytes; with one number less of scratch every call is.
 #[test]
 fn as_much_as_is_told_is_needed() {
-    for name in ["tiny", "loop", "poll", "poll-mended", "two-repeaters", "hasty"] {
+    for name in [
+        "tiny",
+        "loop",
+        "poll",
+        "poll-mended",
+        "two-repeaters",
+        "hasty",
+    ] {
         let model = bytes(&["encode", &plan(&format!("{name}.txt"))]);
         let room = drift::room(&model).unwrap();
         let mut buffers = Buffers::new(room.scratch);
