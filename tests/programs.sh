@@ -1,6 +1,6 @@
 #!/usr/bin/env bash
 # Runs the proved programs in target/bin over stored plans, and holds every byte that they write to what is stored. tests/programs/README.md says
-# what stands where. `rt check judge evidence_bytes plan_bytes soonest tolerance` makes the programs.
+# what stands where. `rt check judge evidence_bytes plan_bytes soonest room tolerance` makes the programs.
 set -u
 cd "$(dirname "$0")/.."
 cases=tests/programs

@@ -133,9 +133,7 @@ pub fn room_word(answer: Space) -> u64
     ensures { λ r. ⌜ r ≡ roomWord (spaceAnswer answer) ⌝ }
 {
     match answer {
-        Space::Needs(states, _, sheet, _) => {
-            states as u64 * AT_STATES + sheet as u64 * AT_COUNT
-        }
+        Space::Needs(states, _, sheet, _) => { states as u64 * AT_STATES + sheet as u64 * AT_COUNT }
         Space::Refused(number) => number as u64,
     }
 }

@@ -35,5 +35,6 @@ pub mod Walks
 pub mod Opening
 -- Request (g) of 02: plans with a joint reset.
 pub mod Joint
--- Request (h) of 02: room known beforehand.
+-- Request (h) of 02: what each call returns by its scratch; room known beforehand.
+pub mod Calls
 pub mod Room

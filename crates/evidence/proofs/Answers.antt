@@ -1,12 +1,9 @@
 -- What the answers mean: a sheet passed exactly where the bytes spell one that keeps the rules, a trail exactly where they spell one that passes.
-use mathlib.Core.Path.{_≡_, refl, sym, ap, subst, _∙_}
-use mathlib.Core.Bool.{false}
+use mathlib.Core.Path.{_≡_, refl, sym, subst}
 use mathlib.Core.Logic.{_↔_, _⊎_, inl, inr}
-use mathlib.Core.List.{List, _∷_}
+use mathlib.Core.List.{List}
 use Prim.Native.Nat.{ℕ, _≤_, _<_}
 use native.Mathlib.Omega.{arith}
-use lib.ListN.{length, drop}
-use lib.Seq.{drop-append-seam}
 use lib.Dec.{eqb}
 use borrow.Author.Tests.{eqb-true, eqb-false}
 use Rattle.theory.proofs.Below.{cond-ind}
@@ -21,8 +18,8 @@ use Rattle.replay.specs.Trail.{trailAnswer}
 use Rattle.replay.proofs.Answers.{passes-law}
 use Rattle.replay.proofs.Ways.{number-ind}
 use Rattle.evidence.specs.declared.Evidence.{Evidence}
-use Rattle.evidence.specs.declared.Evidence.the-variants as evidence
 use Rattle.evidence.specs.Evidence.{SheetPasses, TrailPasses, EvidenceRefusal, found, ofKind, checked}
+use Rattle.evidence.specs.declared.Evidence.the-variants as evidence
 use Rattle.sheet.proofs.Answer as sheet
 use Rattle.replay.proofs.Answers as trail
 

@@ -5,7 +5,7 @@ use native.Mathlib.Omega.{arith}
 use mathlib.Core.Path.{_≡_, refl, sym, ap, ap₂, subst, _∙_}
 use mathlib.Core.Logic.{_↔_, inl, inr, _⊎_, ⊎-elim}
 use mathlib.Core.List.{List, [], _∷_, _++_, List·Memᴰ, List·Memᴰ·head, List·Memᴰ·tail, List·Memᴰ·not-nil, List·Memᴰ·cases-cons, List·Memᴰ·append-cases, Memᴰ·append-left, Memᴰ·append-right}
-use lib.ListN.{length, take, drop, length-drop, length-append, drop-of-length-le}
+use lib.ListN.{length, take, drop, replicate, length-drop, length-append, drop-of-length-le}
 use lib.Seq.{drop-drop, drop-append-seam, take-append-add, getD-drop}
 use Rattle.number.specs.declared.Number.{Number}
 use Rattle.number.specs.declared.Number.the-variants.{Value, Refused}
@@ -29,6 +29,10 @@ fit-more {x} {vs} b f v h = by (List·Memᴰ·cases-cons h)
     by : (v ≡ x) ⊎ List·Memᴰ v vs → v < 2 ^ 21
     by (inl e) = omega arith
     by (inr k) = f v k
+
+pub fit-alike : (k : ℕ) {v : ℕ} → v < 2 ^ 21 → Fit (replicate k v)
+fit-alike zero b = fit-none
+fit-alike (suc k) b = fit-more b (fit-alike k b)
 
 pub fit-append : (vs : List ℕ) {ws : List ℕ} → Fit vs → Fit ws → Fit (vs ++ ws)
 fit-append vs f g v h = ⊎-elim (f v) (g v) (List·Memᴰ·append-cases vs h)
@@ -262,7 +266,7 @@ pub in-any-form : {bs vs : List ℕ} → SpellsShortest bs vs → SpellsAll bs v
 in-any-form SpelledBy.none = SpelledBy.none
 in-any-form (SpelledBy.more k s) = SpelledBy.more (k .spells) (in-any-form s)
 
-shortest-total : {bs vs : List ℕ} → SpellsShortest bs vs → length bs ≡ length (spellAll vs)
+pub shortest-total : {bs vs : List ℕ} → SpellsShortest bs vs → length bs ≡ length (spellAll vs)
 unfolding spellAll
 shortest-total SpelledBy.none = refl
 shortest-total (SpelledBy.more {g = g} {bs = bs} {vs = vs} {v = v} k s) =

@@ -1,9 +1,9 @@
 -- The shortest form of a number: it spells the number, no other form is shorter, and it reads back.
-use Prim.Native.Nat.{ℕ, _+_, _*_, _/_, _%_, _^_, _<_, _≤_}
+use Prim.Native.Nat.{ℕ, zero, suc, _+_, _*_, _/_, _%_, _^_, _<_, _≤_}
 use native.Mathlib.Omega.{arith}
 use mathlib.Core.Path.{_≡_, refl, sym, ap, subst, _∙_}
 use mathlib.Core.List.{List, [], _∷_, _++_, append-assoc}
-use lib.ListN.{length, length-append}
+use lib.ListN.{length, getD, replicate, length-append}
 use lib.Seq.{drop-append-seam}
 use lib.Dec.{ltb}
 use borrow.Author.Tests.{lt-ltb, le-ltb, ltb-true, ltb-false}
@@ -64,6 +64,31 @@ spell-grows v w h =
     (λ p. rw (spell-1 v (omega arith)) (omega arith))
     (λ p q. spell-ind (λ (l : List ℕ). length l ≤ 2) v (λ _. omega arith) (λ _ _. omega arith) (λ k. absurd (omega arith)))
     (λ q. spell-few v)
+
+pub spell-some : (v : ℕ) → 1 ≤ length (spell v)
+spell-some v = spell-ind (λ (l : List ℕ). 1 ≤ length l) v (λ _. omega arith) (λ _ _. omega arith) (λ _. omega arith)
+
+-- several numbers, none above `top`, and the same number several times
+pub spell-all-most : (top : ℕ) (vs : List ℕ) → ((i : ℕ) → i < length vs → getD vs i 0 ≤ top) → length (spellAll vs) ≤ length vs * length (spell top)
+unfolding spellAll
+spell-all-most top [] h = omega arith
+spell-all-most top (v ∷ vs) h =
+    omega (
+      arith,
+      length-append (spell v) (spellAll vs),
+      spell-grows v top (h 0 (omega arith)),
+      spell-all-most top vs (λ i b. h (suc i) (omega arith)),
+    )
+
+pub spell-all-least : (vs : List ℕ) → length vs ≤ length (spellAll vs)
+unfolding spellAll
+spell-all-least [] = omega arith
+spell-all-least (v ∷ vs) = omega (arith, length-append (spell v) (spellAll vs), spell-some v, spell-all-least vs)
+
+pub spell-all-alike : (k v : ℕ) → length (spellAll (replicate k v)) ≡ k * length (spell v)
+unfolding spellAll
+spell-all-alike zero v = omega arith
+spell-all-alike (suc k) v = omega (arith, length-append (spell v) (spellAll (replicate k v)), spell-all-alike k v)
 
 -- one after the other
 pub spell-append : (vs ws : List ℕ) → spellAll (vs ++ ws) ≡ spellAll vs ++ spellAll ws

@@ -4,10 +4,8 @@ use native.Mathlib.Nat.{mul-le-mul-left}
 use native.Mathlib.Omega.{arith}
 use mathlib.Core.Path.{_≡_, refl, sym, ap, _∙_}
 use mathlib.Core.Logic.{_↔_}
-use mathlib.Core.List.{List}
 use lib.ListN.{length}
 use Rattle.number.specs.Number.{spell}
-use Rattle.number.specs.Shortest.{ShortestForm}
 use Rattle.number.proofs.Spelling.{spell-few, spell-grows}
 use Rattle.number.proofs.Shortest.{spell-is-shortest, shortest-length}
 use Rattle.op_room.specs.Room.{LongestForm, SheetLimit, sheetLimit}

@@ -1,16 +1,16 @@
--- A sheet that keeps the rules has every marked state in and none forbidden; where no marked state is forbidden, ours keeps the rules.
--- `sheetTest` tells what passes.
-use mathlib.Core.Path.{_≡_, sym, _∙_, subst, subst₂, fun-ext}
+-- A sheet that keeps the rules has every marked state in and none forbidden; where no marked state is forbidden, ours keeps the rules; where no state is,
+-- and all are allowed, so does the one of greatest numbers. `sheetTest` tells what passes.
+use mathlib.Core.Path.{_≡_, sym, ap, _∙_, subst, subst₂, fun-ext}
 use mathlib.Core.Bool.{Bool, true, false, true≢false}
 use mathlib.Core.Logic.{_↔_, _⊎_, inl, inr, ⊎-elim}
 use mathlib.Core.List.{List}
 use Prim.Native.Nat.{ℕ, _+_, _-_, _*_, _/_, _%_, _≤_, _<_}
 use native.Mathlib.Omega.{arith}
-use lib.ListN.{length, getD}
+use lib.ListN.{length, getD, replicate, length-replicate, getD-replicate}
 use lib.Dec.{eqb}
 use Rattle.theory.specs.Below.{bit}
 use Rattle.theory.specs.Walk.{Walk, stop, move}
-use Rattle.theory.specs.System.{System, Laws, OnClosedWalkIn}
+use Rattle.theory.specs.System.{System, Joins, Laws, OnClosedWalkIn}
 use Rattle.theory.specs.Marked.{by-flow, by-face, by-touch, MarkedIn, begin, onward, marks}
 use Rattle.theory.specs.Height.{IsHeight, height}
 use Rattle.theory.specs.Sheet.{SheetRules, inOf, heightOf, Sheet, keeps, sheetTest, number, ourSheet}
@@ -187,3 +187,36 @@ module _ (Y : System) (L : Laws Y) where
     rules =
         subst₂ (λ (i : ℕ → Bool) (h : ℕ → ℕ). SheetRules Y i h) (sym (fun-ext our-sheet-in)) (sym (fun-ext our-sheet-height)) (rules-complete Y L g);
   }
+
+-- ---- another one: every state in, all at the greatest height
+
+module _ (Y : System) (L : Laws Y) (all-allowed : (p : ℕ) → p < Y .size → Y .allowed p ≡ true) (none-forbidden : (p : ℕ) → p < Y .size → Y .forbidden p ≡ false) where
+  abbrev top : ℕ
+  top = 2 * Y .size - 1
+
+  full-at : (p : ℕ) → p < Y .size → getD (replicate (Y .size) top) p 0 ≡ top
+  full-at p = getD-replicate (Y .size) p top 0
+
+  full-in : (p : ℕ) → p < Y .size → inOf (replicate (Y .size) top) p ≡ true
+  full-in p b = eqb↔ _ _ .1 (ap (λ (v : ℕ). v % 2) (full-at p b) ∙ omega arith)
+
+  joined : {r : ℕ → ℕ → Bool} → Joins Y r → (p q : ℕ) → r p q ≡ true → (p < Y .size) × (q < Y .size)
+  joined joins p q e = let (a, b) = joins p q e in (L .allowed-below p a, L .allowed-below q b)
+
+  pub full-sheet : Sheet Y (replicate (Y .size) top)
+  full-sheet =
+      record {
+        long = length-replicate (Y .size) top;
+        bounded = λ p b. omega (arith, full-at p b);
+        blank = λ p b out. absurd (true≢false (sym (all-allowed p b) ∙ out));
+        rules = record {
+          start-in = full-in (Y .start) (L .allowed-below (Y .start) (L .start-allowed));
+          flow-in = λ p q _ e. full-in q (joined (L .flow-joins) p q e .1);
+          face-in = λ p q _ e. full-in q (joined (L .face-joins) p q e .1);
+          no-rise = λ p q e.
+              let (b, c) = joined (L .flow-joins) p q e in
+              omega (arith, ap (λ (v : ℕ). v / 2) (full-at p b), ap (λ (v : ℕ). v / 2) (full-at q c));
+          lower = λ p q x _ out e _. absurd (true≢false (sym (full-in q (joined (L .near-joins) p q e .1)) ∙ out));
+          none-forbidden = λ p b _. none-forbidden p b;
+        };
+      }

@@ -38,6 +38,9 @@ const SIZES: [Size; 7] = [
     (3, 4, 8),
 ];
 
+/// One clock, one location.
+const SMALLEST: Size = (1, 1, 1);
+
 fn time<T>(run: impl FnOnce() -> T) -> Duration {
     let begin = Instant::now();
     black_box(run());
@@ -194,24 +197,26 @@ fn print_growth(means: &[[Means; 2]; SIZES.len()]) {
     }
 }
 
-/// Plans in shortest form: a call without states, so by the bytes of a plan.
+/// Plans in shortest form, and their room: calls that know no states, so by the
+/// bytes of a plan.
 fn print_plans() {
     println!();
-    println!("plans in shortest form: microseconds by the bytes of a plan");
-    println!(
-        "{:>7} {:>9} {:>9} {:>6}",
-        "bytes", "ours", "second", "ratio"
-    );
-    for (clocks, ceiling, locations) in SIZES {
+    println!("plans in shortest form, and the room of a plan: microseconds by its bytes");
+    let columns = ["shortest", "room"].map(|call| format!(" | {call:>9} {:>9} ratio", "second"));
+    println!("{:>7}{}", "bytes", columns.concat());
+    for (clocks, ceiling, locations) in [SMALLEST].into_iter().chain(SIZES) {
         let model = generate_sized(0, clocks, ceiling.into(), locations, Class::Safe);
         let [mut ours, mut theirs] = [(); 2].map(|()| vec![0; model.len()]);
-        let [ours, theirs] = both(
+        let shortest = both(
             || drift::write_plan(&model, &mut ours),
             || second::write_plan(&model, &mut theirs),
-        )
-        .map(|time| time.as_secs_f64() * 1e6);
-        let (bytes, ratio) = (model.len(), ours / theirs);
-        println!("{bytes:>7} {ours:>9.2} {theirs:>9.2} {ratio:>6.2}");
+        );
+        let room = both(|| drift::room(&model), || second::room(&model));
+        let columns = [shortest, room].map(|times| {
+            let [ours, theirs] = times.map(|time| time.as_secs_f64() * 1e6);
+            format!(" | {ours:>9.2} {theirs:>9.2} {:>5.2}", ours / theirs)
+        });
+        println!("{:>7}{}", model.len(), columns.concat());
     }
 }
 

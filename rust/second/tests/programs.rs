@@ -4,7 +4,7 @@
 use second::calls::states_of;
 use second::margin::by_drawing;
 use second::program::{bytes_of_text, evidence_bytes, judge_lines, refusal_line, shortest_bytes};
-use second::program::{OUTPUT, SCRATCH};
+use second::program::{room_lines, OUTPUT, SCRATCH};
 use second::refusal::SCRATCH_TOO_SHORT;
 use second::{read_model, soonest};
 use std::collections::BTreeSet;
@@ -87,6 +87,7 @@ fn the_programs_write_what_is_stored() {
             "plan_bytes" => shortest_bytes(&plan(&name), OUTPUT),
             "tolerance" => tolerance_lines(&plan(&name)).into_bytes(),
             "soonest" => soonest_lines(&plan(&name)).into_bytes(),
+            "room" => room_lines(&plan(&name)).into_bytes(),
             _ => panic!("{program}"),
         };
         assert_eq!(written, expected, "{name} {program}");
@@ -112,6 +113,10 @@ fn every_answer_is_among_them() {
     assert!(has("tolerance", b"states "));
     assert!(has("plan_bytes", &[1]) && has("plan_bytes", b"refused "));
     assert!(has("soonest", b"location 0 time 0\n") && has("soonest", b"refused "));
+    for refusal in 1..=7 {
+        assert!(has("room", format!("refused {refusal}\n").as_bytes()));
+    }
+    assert!(has("room", b"states 15816\n"));
     for name in names() {
         if let Some(plan) = name.strip_suffix(".plan") {
             assert!(cases.iter().any(|(used, _, _)| used == plan), "{plan}");
