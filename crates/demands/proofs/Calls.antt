@@ -19,7 +19,7 @@ use Rattle.evidence.proofs.Answers.{refusal-known}
 use Rattle.evidence_writer.specs.declared.Written.{Written}
 use Rattle.evidence_writer.specs.Written.{verdictWith, writtenFor, writtenBy}
 use Rattle.call.specs.Call.{modelOf, refusal}
-use Rattle.call.specs.Joint.{disjoint}
+use Rattle.call.specs.Joint.{disjoint, jointRefusal}
 use Rattle.call.proofs.Calls.{accepted}
 use Rattle.call.proofs.Joint.{joint-refused, joint-past}
 use Rattle.op_judge.specs.Judge.{judged}
@@ -51,6 +51,10 @@ not-eight b h k = cond-ind NotEight b (λ _. h) (λ _. k)
 module _ (bytes lent : List ℕ) where
   abbrev r : ℕ
   r = refusal bytes lent
+
+  pub joint-write-refused : (jointRefusal bytes lent ≡ 0 → ⊥) → (room : ℕ) → jointWriteAnswer bytes lent room .number ≡ jointRefusal bytes lent
+  unfolding jointWriteAnswer
+  joint-write-refused ne room = simp (ne-eqb (jointRefusal bytes lent) 0 ne) (answer-number (jointRefusal bytes lent) [])
 
   -- refused by 1 to 8: so says each
   pub each-refused : (r ≡ 0 → ⊥) → EachCall (λ n. n ≡ r) bytes lent

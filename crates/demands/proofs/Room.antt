@@ -25,6 +25,7 @@ use Rattle.theory.proofs.Lists.{every-law}
 use Rattle.theory.proofs.RegionCount.{count-law}
 use Rattle.theory.proofs.Trail.{unsafe-trail, trail-steps-below}
 use Rattle.theory.proofs.Marked.{unsafe-is}
+use Rattle.theory.proofs.Sheet.{full-sheet}
 use Rattle.theory.proofs.Replay.{our-moves-length}
 use Rattle.theory.proofs.WithoutTouch.{touch-labelled}
 use Rattle.number.specs.Number.{spell, spellAll}
@@ -33,6 +34,7 @@ use Rattle.number.proofs.Spelling.{spell-1, spell-all-most, spell-all-least, sp
 use Rattle.number.proofs.Sequence.{fit-more, fit-alike, shortest-total}
 use Rattle.model.specs.declared.Model.{Model}
 use Rattle.model.specs.Model.{Lawful}
+use Rattle.edge_walks.specs.Joint.{lacksJointReset}
 use Rattle.plan_reader.specs.Accept.{readModel}
 use Rattle.plan_reader.proofs.Accepted.{refusal-bound, accepted-lawful}
 use Rattle.graph.specs.Plan.{automatonOf, systemOfModel, labelledOfModel}
@@ -46,6 +48,7 @@ use Rattle.evidence.proofs.Ours.{our-sheet}
 use Rattle.evidence_writer.specs.Written.{evidenceBy}
 use Rattle.call.specs.Call.{modelOf, statesOf, enough, refusal}
 use Rattle.call.specs.Joint.{jointRefusal}
+use Rattle.call.proofs.Joint.{joint-past}
 use Rattle.op_judge.specs.Judge.{judged}
 use Rattle.op_check.specs.Check.{checkAnswer}
 use Rattle.op_write.specs.Write.{writeAnswer}
@@ -56,8 +59,7 @@ use Rattle.op_room.proofs.Limits.{limit-law}
 use Rattle.op_room.proofs.Rooms.{states-within}
 use Rattle.demands.specs.Told.{kindAnswer}
 use Rattle.demands.specs.Room.{EachCall}
-use Rattle.theory.proofs.Sheet.{full-sheet}
-use Rattle.demands.proofs.Calls.{answer-number, each-refused, each-past}
+use Rattle.demands.proofs.Calls.{answer-number, joint-write-refused, each-refused, each-past}
 use Rattle.demands.proofs.Demand2.{judge-unsafe}
 use Rattle.demands.proofs.Demand3.{sheet-exactly, writes}
 use Rattle.demands.proofs.Joint as joint
@@ -105,7 +107,7 @@ module _ (bytes : List ℕ) where
             subst (λ (k : ℕ). EachCall (λ n. n ≡ k) bytes lent) (is ∙ sym number-is) (each-refused bytes lent (λ z. refused (sym is ∙ z))),
       )
 
-  -- an accepted one its room: S, of which the scratch length is one more copy, the sheet limit as 02 has it, and "the step limit is S-1"
+  -- an accepted one its room: S, S again as the scratch length, the sheet limit as 02 has it, and "the step limit is S-1"
   pub told-exactly : readModel bytes .refusal ≡ 0
       → (limit : ℕ) × SheetLimit S limit × (roomAnswer bytes ≡ record { number = 0; values = S ∷ S ∷ limit ∷ (S - 1) ∷ [] })
   unfolding roomAnswer answer roomFor
@@ -180,7 +182,8 @@ module _ (bytes : List ℕ) where
     sheet-bytes : (shown : List ℕ) (p : SheetPasses m shown) → (length shown ≡ 1 + length (spellAll (p .0))) × (length (p .0) ≡ S)
     unfolding spellAll
     sheet-bytes shown (l, spells, K) =
-        (shortest-total spells ∙ length-append (spell 1) (spellAll l) ∙ ap (λ (k : ℕ). k + length (spellAll l)) (ap length (spell-1 1 (omega arith))), K .long ∙ size-states m)
+        let one : length (spell 1) ≡ 1 = ap length (spell-1 1 (omega arith)) in
+        (shortest-total spells ∙ length-append (spell 1) (spellAll l) ∙ ap (λ (k : ℕ). k + length (spellAll l)) one, K .long ∙ size-states m)
 
     -- every sheet that passes has at most so many bytes, whoever made it;
     pub sheet-fits : (shown : List ℕ) → SheetPasses m shown → length shown ≤ sheet
@@ -229,18 +232,40 @@ module _ (bytes : List ℕ) where
       joint-sheet-written free = joint.writes-same bytes lent free safe out .0 ∙ sheet-written
 
     -- so where a writer says 9 with that output, whatever scratch it is lent, it is a trail that is longer
-    pub nine-trail : (lent out : List ℕ) → sheet ≤ length out → writeAnswer bytes lent (length out) .number ≡ 9 → ForbiddenMarked a
-    nine-trail lent out fits nine = by (ℕ-discrete (refusal bytes lent) 0) (either (unsafe Y))
-      where
-        early : (b : Bool) → _≡_ {A = ℕ} (cond b 0 8) 9 → ⊥
-        early true e = omega arith
-        early false e = omega arith
+    module _ (lent out : List ℕ) (fits : sheet ≤ length out) where
+      -- where the plan is safe, what is no refusal of the model or the scratch is no 9 either
+      nine-only : (n : ℕ) → (refusal bytes lent ≡ 0 → (ForbiddenMarked a → ⊥) → n ≡ 9 → ⊥) → ((refusal bytes lent ≡ 0 → ⊥) → n ≡ refusal bytes lent) → n ≡ 9
+          → ForbiddenMarked a
+      nine-only n past before nine = by (ℕ-discrete (refusal bytes lent) 0) (either (unsafe Y))
+        where
+          early : (b : Bool) → _≡_ {A = ℕ} (cond b 0 8) 9 → ⊥
+          early true e = omega arith
+          early false e = omega arith
 
-        by : Dec (refusal bytes lent ≡ 0) → (unsafe Y ≡ true) ⊎ (unsafe Y ≡ false) → ForbiddenMarked a
-        by _ (inl u) = unsafe-states m ok .0 u
-        by (yes taken) (inr u) =
-            absurd (omega (arith, sym (ap (λ (x : Answer). x .number) (sheet-written lent out taken (safe-states m ok .0 u) fits)) ∙ nine))
-        by (no ne) (inr u) = absurd (early (enough S lent) (sym (refusal-is lent) ∙ sym (each-refused bytes lent ne .write (length out)) ∙ nine))
+          by : Dec (refusal bytes lent ≡ 0) → (unsafe Y ≡ true) ⊎ (unsafe Y ≡ false) → ForbiddenMarked a
+          by _ (inl u) = unsafe-states m ok .0 u
+          by (yes taken) (inr u) = absurd (past taken (safe-states m ok .0 u) nine)
+          by (no ne) (inr u) = absurd (early (enough S lent) (sym (refusal-is lent) ∙ sym (before ne) ∙ nine))
+
+      pub nine-trail : writeAnswer bytes lent (length out) .number ≡ 9 → ForbiddenMarked a
+      nine-trail =
+          nine-only (writeAnswer bytes lent (length out) .number)
+          (λ taken safe nine. omega (arith, sym (ap (λ (x : Answer). x .number) (sheet-written lent out taken safe fits)) ∙ nine))
+          (λ ne. each-refused bytes lent ne .write (length out))
+
+      joint-no-nine : refusal bytes lent ≡ 0 → (ForbiddenMarked a → ⊥) → jointWriteAnswer bytes lent (length out) .number ≡ 9 → ⊥
+      joint-no-nine taken safe nine = by (ℕ-discrete (jointRefusal bytes lent) 0)
+        where
+          seventeen : (b : Bool) → _≡_ {A = ℕ} (cond b 17 0) 9 → ⊥
+          seventeen true e = omega arith
+          seventeen false e = omega arith
+
+          by : Dec (jointRefusal bytes lent ≡ 0) → ⊥
+          by (yes free) = omega (arith, sym (ap (λ (x : Answer). x .number) (joint-sheet-written lent out taken safe fits free)) ∙ nine)
+          by (no ne) = seventeen (lacksJointReset m) (sym (joint-past bytes lent taken) ∙ sym (joint-write-refused bytes lent ne (length out)) ∙ nine)
+
+      pub joint-nine-trail : jointWriteAnswer bytes lent (length out) .number ≡ 9 → ForbiddenMarked a
+      joint-nine-trail = nine-only (jointWriteAnswer bytes lent (length out) .number) joint-no-nine (λ ne. each-refused bytes lent ne .write-joint (length out))
 
     -- ---- the step limit: our trail, whose steps the judge counts and the bytes carry
 
