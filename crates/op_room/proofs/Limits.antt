@@ -1,4 +1,4 @@
--- The sheet limit that is computed is the paper's, for as many states as a number of three groups can be twice.
+-- The sheet limit that is computed is the paper's, while 2S fits three groups.
 use Prim.Native.Nat.{ℕ, _+_, _-_, _*_, _^_, _≤_, _<_}
 use native.Mathlib.Nat.{mul-le-mul-left}
 use native.Mathlib.Omega.{arith}
