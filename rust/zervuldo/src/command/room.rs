@@ -12,7 +12,7 @@ pub const COMMAND: Command = Command {
     summary: "the memory to lend for a plan, before it is judged",
     details: "For callers of the library, who lend it scratch and output. States and scratch are \
               exact: with so many numbers in each of the four slices no call is refused by 8, and \
-              with fewer in one of them every call is. A sheet that passes has at most so many \
+              with fewer in one of them every call that takes scratch is. A sheet that passes has at most so many \
               bytes, so that with so much output evidence for a safe plan is never refused by 9. \
               Our trail has at most so many steps; of its bytes nothing is known beforehand. \
               Nothing is marked for it.",
