@@ -1,7 +1,7 @@
 #!/usr/bin/env bash
 # Builds zervuldo and copies it into a folder, with its man page and the completion for bash:
 #     bash install.sh DIR
-# The proved library is made first, which takes no time if nothing changed since; DRIFT_LIB names a folder that has one already.
+# The library is proved first, crates side by side, and again only where something changed since; DRIFT_LIB names a folder that has one already.
 set -eu
 if [ $# -ne 1 ]; then
     echo 'usage: bash install.sh DIR' >&2
@@ -11,7 +11,13 @@ mkdir -p "$1"
 folder=$(cd "$1" && pwd)
 cd "$(dirname "$0")"
 
-[ -n "${DRIFT_LIB:-}" ] || rt staticlib drift_c
+if [ -z "${DRIFT_LIB:-}" ]; then
+    # As many crates at a time as there are processors, and 3 GB of memory for each.
+    at_once=$(nproc)
+    fit=$(awk '/^MemAvailable:/ { print int($2 / 3000000) }' /proc/meminfo)
+    if [ "${fit:-1}" -lt "$at_once" ]; then at_once=$((fit > 1 ? fit : 1)); fi
+    (cd crates/drift_c && rt all check --jobs "$at_once" && rt lib)
+fi
 (cd rust && cargo build --release --offline -p zervuldo)
 program=${CARGO_TARGET_DIR:-rust/target}/release/zervuldo
 pages=$folder/share/man/man1

@@ -3,7 +3,7 @@
  * it number by number, and asks how soon drift does harm and how soon perfect
  * clocks get to each location.
  *
- *     cc -I c -o target/example c/example.c target/staticlib/libdrift_c.a
+ *     cc -I c -o target/example c/example.c crates/drift_c/out/libdrift_c.a
  */
 #include "drift.h"
 

@@ -1,8 +1,8 @@
 #!/usr/bin/env bash
-# Runs the proved programs in target/bin over stored plans, and holds every byte that they write to what is stored. tests/programs/README.md says
-# what stands where. `rt check judge evidence_bytes plan_bytes soonest room tolerance` makes the programs.
+# Runs the proved programs crates/NAME/out/NAME over stored plans, and holds every byte that they write to what is stored. tests/programs/README.md
+# says what stands where. `rt run` in a program's crate makes it, and so does `rt ci`; the README has the commands.
 set -u
-cd "$(dirname "$0")/.."
+cd "$(dirname "$0")/.." || exit 1
 cases=tests/programs
 room=$(mktemp -d) || exit 1
 trap 'rm -rf "$room"' EXIT
@@ -22,7 +22,7 @@ for expected in "$cases"/*.text "$cases"/*.numbers; do
     [ -f "$plan" ] || plan=plans/$stem.plan
     bytes "$plan" >"$room/input"
     case $form in numbers) bytes "$expected" ;; *) cat "$expected" ;; esac >"$room/expected"
-    if [ -f "$plan" ] && "target/bin/$program" <"$room/input" >"$room/output" && cmp "$room/output" "$room/expected"; then
+    if [ -f "$plan" ] && "crates/$program/out/$program" <"$room/input" >"$room/output" && cmp "$room/output" "$room/expected"; then
         echo "$program < $plan: as in $name"
         passed=$((passed + 1))
     else

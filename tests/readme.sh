@@ -1,8 +1,8 @@
 #!/usr/bin/env bash
 # Runs every command of README.md in order, each in a shell at the repository's root, and holds its status to the one that its comment names
 # (`status 1`), else to 0; then holds the lines that the README shows to what is printed.
-# `bash .ci/run` is left out: it is the whole gate, which runs this after `rt ci`, when nothing but the static library is left to prove.
-# What the commands write, poll.* and target/, is in .gitignore.
+# `bash .ci/run` is left out: it is the whole gate, which runs this. Where nothing is proved yet, the first command proves the library.
+# What the commands write, poll.*, target/ and each crate's out/, is in .gitignore.
 set -eu
 cd "$(dirname "$0")/.."
 
@@ -16,10 +16,10 @@ while IFS= read -r line; do
         echo "README: status $status, not ${expected:-0}"
         exit 1
     fi
-done < <(grep -E '^    (rt |bash |cc |\(cd |target/)' README.md | sed -E 's/^    //' | grep -v '^bash .ci/run')
+done < <(grep -E '^    (rt |bash |cc |\(cd |target/|crates/)' README.md | sed -E 's/^    //' | grep -v '^bash .ci/run')
 
 # The block of README.md that begins with a line.
 shown() { sed -n "/^    $1\$/,/^\$/p" README.md | sed -E '/^$/d; s/^    //'; }
-diff <(shown 'verdict unsafe') <(target/bin/judge <poll.model)
+diff <(shown 'verdict unsafe') <(crates/judge/out/judge <poll.model)
 diff <(shown 'poll: unsafe') <(target/install/bin/zervuldo judge plans/poll.txt --unit 20ms --crystal 50ppm || true)
 echo 'every command of the README ran'

@@ -1,5 +1,5 @@
-//! Links the proved static library, which `rt staticlib drift_c` writes to
-//! target/staticlib beside the crates; DRIFT_LIB names another folder.
+//! Links the proved static library, which `rt lib` in crates/drift_c writes to
+//! its folder out; DRIFT_LIB names another folder.
 
 use std::env;
 use std::path::PathBuf;
@@ -10,7 +10,7 @@ fn main() {
         .map(PathBuf::from)
         .unwrap_or_else(|_| {
             let here = env::var("CARGO_MANIFEST_DIR").expect("cargo names the folder");
-            PathBuf::from(here).join("../../target/staticlib")
+            PathBuf::from(here).join("../../crates/drift_c/out")
         });
     println!("cargo:rustc-link-search=native={}", folder.display());
     println!("cargo:rustc-link-lib=static=drift_c");

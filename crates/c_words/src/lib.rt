@@ -1,4 +1,5 @@
 // Answers as one number each, made of fields, for callers in C and other languages.
+#![tactic(auto)]
 
 ghost use Rattle.std.specs.Prelude.{◌≡◌, ◌+◌, ◌*◌, ◌%◌, ◌^◌, ◌<◌, ◌≤◌, length};
 ghost use Rattle.op_judge.specs.Judge.{judgement_answer};

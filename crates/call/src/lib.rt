@@ -1,4 +1,5 @@
 // What all operations on a plan share: it is read and its scratch measured before anything is touched, and the scratch that was used is cleared.
+#![tactic(auto)]
 
 ghost use Rattle.std.specs.Prelude.{◌≡◌, [], ◌∷◌, length};
 ghost use Rattle.call.specs.Call.{enough, admission};
@@ -10,7 +11,7 @@ use limits::zero::clear;
 use model::Model;
 
 // A plan that a call goes on with, and its number of states; or the refusal, 1 to 8.
-#[derive(Drop)]
+#[derive(Clone, Copy)]
 pub struct Admission {
     pub refusal: u8,
     pub states: usize,

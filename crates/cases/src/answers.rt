@@ -1,12 +1,11 @@
 // Answers as 01 has them: the number, and behind 0 the values; a verdict is 0 safe, 1 unsafe.
-ghost use Rattle.std.specs.Prelude.{◌≤◌};
-
 use drift::{
     Arrival, Bound, Evidence, Judgement, Marking, Onset, Space, Stored, Tolerance, Written,
 };
-use libc::STDOUT_FILENO;
+use std::io;
+use std::io::Write;
 
-#[derive(Drop)]
+#[derive(Clone, Copy)]
 pub enum Answer {
     Refused(u8),
     One(usize),
@@ -92,49 +91,49 @@ pub fn of_arrival(found: Arrival) -> Answer {
     }
 }
 
-pub fn say(text: &[u8]) {
-    io::write_all(STDOUT_FILENO, text);
+pub fn say<W: Write>(to: &mut W, text: &[u8]) -> io::Result<()> {
+    to.write_all(text)
 }
 
-pub fn put(number: usize) {
-    io::print_decimal(STDOUT_FILENO, number as u64);
+pub fn put<W: Write>(to: &mut W, number: usize) -> io::Result<()> {
+    write!(to, "{number}")
 }
 
 // A value behind others.
-pub fn show(number: usize) {
-    say(b" ");
-    put(number);
+pub fn show<W: Write>(to: &mut W, number: usize) -> io::Result<()> {
+    say(to, b" ")?;
+    put(to, number)
 }
 
-fn show_long(number: u64) {
-    say(b" ");
-    io::print_decimal(STDOUT_FILENO, number);
+fn show_long<W: Write>(to: &mut W, number: u64) -> io::Result<()> {
+    say(to, b" ")?;
+    write!(to, "{number}")
 }
 
-pub fn show_answer(answer: Answer) {
+pub fn show_answer<W: Write>(to: &mut W, answer: Answer) -> io::Result<()> {
     match answer {
-        Answer::Refused(number) => put(number as usize),
+        Answer::Refused(number) => put(to, number as usize),
         Answer::One(a) => {
-            put(0);
-            show(a);
+            put(to, 0)?;
+            show(to, a)
         }
         Answer::Two(a, b) => {
-            put(0);
-            show(a);
-            show(b);
+            put(to, 0)?;
+            show(to, a)?;
+            show(to, b)
         }
         Answer::Three(a, b, c) => {
-            put(0);
-            show(a);
-            show(b);
-            show(c);
+            put(to, 0)?;
+            show(to, a)?;
+            show(to, b)?;
+            show(to, c)
         }
         Answer::Four(a, b, c, d) => {
-            put(0);
-            show(a);
-            show(b);
-            show_long(c);
-            show_long(d);
+            put(to, 0)?;
+            show(to, a)?;
+            show(to, b)?;
+            show_long(to, c)?;
+            show_long(to, d)
         }
     }
 }

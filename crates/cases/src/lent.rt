@@ -6,6 +6,8 @@ use super::answers::{put, say, show};
 use super::operation::Operation;
 use limits::{MAX_STATES, Word};
 use lines::field;
+use std::io;
+use std::io::Write;
 
 // A case is lent the first of these: enough for any plan.
 pub type Scratch = [Word; MAX_STATES];
@@ -16,7 +18,7 @@ pub type Output = [u8; MAX_STATES];
 const LENGTH: u16 = 4000;
 
 // Of the four scratch slices and of the output.
-#[derive(Drop)]
+#[derive(Clone, Copy)]
 pub struct Lengths {
     pub s1: usize,
     pub s2: usize,
@@ -70,42 +72,54 @@ fn zeros(a: &Scratch) -> usize {
 }
 
 // How many numbers of each scratch slice the call has left at zero.
-pub fn show_zeros(s1: &Scratch, s2: &Scratch, s3: &Scratch, s4: &Scratch) {
-    say(b", zero");
-    show(zeros(s1));
-    show(zeros(s2));
-    show(zeros(s3));
-    show(zeros(s4));
+pub fn show_zeros<W: Write>(
+    to: &mut W,
+    s1: &Scratch,
+    s2: &Scratch,
+    s3: &Scratch,
+    s4: &Scratch,
+) -> io::Result<()> {
+    say(to, b", zero")?;
+    show(to, zeros(s1))?;
+    show(to, zeros(s2))?;
+    show(to, zeros(s3))?;
+    show(to, zeros(s4))
 }
 
 // A byte of the output: the first behind a space, the others behind nothing or a comma.
-fn show_byte(i: usize, byte: u8, commas: bool) {
+fn show_byte<W: Write>(to: &mut W, i: usize, byte: u8, commas: bool) -> io::Result<()> {
     if i == 0 {
-        say(b" ");
+        say(to, b" ")?;
     } else if commas {
-        say(b",");
+        say(to, b",")?;
     }
-    put(byte as usize);
+    put(to, byte as usize)
 }
 
 // The first n bytes.
-fn show_bytes(out: &Output, n: usize, commas: bool) {
-    say(b", out");
+fn show_bytes<W: Write>(to: &mut W, out: &Output, n: usize, commas: bool) -> io::Result<()> {
+    say(to, b", out")?;
     let mut i = 0;
     while i < MAX_STATES {
         if n <= i {
-            return;
+            return Ok(());
         }
-        show_byte(i, out[i], commas);
+        show_byte(to, i, out[i], commas)?;
         i += 1;
     }
+    Ok(())
 }
 
 // The n bytes of the output, where an operation has one: marks together, evidence and plans with commas.
-pub fn show_output(operation: Operation, out: &Output, n: usize) {
+pub fn show_output<W: Write>(
+    to: &mut W,
+    operation: Operation,
+    out: &Output,
+    n: usize,
+) -> io::Result<()> {
     match operation {
-        Operation::Marks | Operation::MarksJoint => show_bytes(out, n, false),
-        Operation::Write | Operation::WriteJoint | Operation::Plan => show_bytes(out, n, true),
-        _ => {}
+        Operation::Marks | Operation::MarksJoint => show_bytes(to, out, n, false),
+        Operation::Write | Operation::WriteJoint | Operation::Plan => show_bytes(to, out, n, true),
+        _ => Ok(()),
     }
 }

@@ -4,12 +4,14 @@
 // `rounds`, or else the bytes of a piece of evidence, an empty line too. A line that begins with '#' is a comment. All but the plans' bytes is
 // written back, a case with its answer behind it: 01's number and values; how many numbers of each scratch slice are zero then; and the output.
 // `rounds` is no public operation: its values are the rounds of the marking and the marked states.
+#![tactic(auto)]
+
 mod answers;
 mod counting;
 mod lent;
 mod operation;
 
-ghost use Rattle.std.specs.Prelude.{◌≡◌, ◌+◌, ◌≤◌, ◌<◌, min, length};
+ghost use Rattle.std.specs.Prelude.{◌≡◌, ◌+◌, ◌≤◌, ◌<◌, min, length, IfOk};
 
 use answers::{
     Answer, of_arrival, of_bound, of_evidence, of_judgement, of_marking, of_onset, of_space,
@@ -17,10 +19,12 @@ use answers::{
 };
 use counting::rounds;
 use lent::{Output, Scratch, length, lengths_of, show_output, show_zeros};
-use libc::STDIN_FILENO;
 use limits::{MAX_STATES, Word};
 use lines::{after, letter, line_end, long_field, numbers};
 use operation::{Operation, operation_of};
+use reading::read_full;
+use std::io;
+use std::io::Write;
 
 // Bytes of a plan or of evidence.
 const BYTES: usize = 1024;
@@ -29,21 +33,17 @@ const BYTES: usize = 1024;
 const TEXT: usize = 131072;
 
 // Evidence, with scratch as document 01's programs lend it.
-fn check(plan: &[u8], line: &[u8]) {
+fn check<W: Write>(to: &mut W, plan: &[u8], line: &[u8]) -> io::Result<()> {
     let mut bytes = [0u8; BYTES];
     let n = numbers(line, &mut bytes);
     let mut a: [Word; 4000] = [7; 4000];
     let mut b: [Word; 4000] = [7; 4000];
     let mut c: [Word; 4000] = [7; 4000];
     let mut d: [Word; 4000] = [7; 4000];
-    show_answer(of_evidence(drift::check_evidence(
-        plan,
-        &bytes[..n],
-        &mut a,
-        &mut b,
-        &mut c,
-        &mut d,
-    )));
+    show_answer(
+        to,
+        of_evidence(drift::check_evidence(plan, &bytes[..n], &mut a, &mut b, &mut c, &mut d)),
+    )
 }
 
 // An operation that is lent the caller's scratch.
@@ -71,15 +71,21 @@ fn call(
 }
 
 // The plan in shortest form, without scratch.
-fn shorten(plan: &[u8], line: &[u8]) {
+fn shorten<W: Write>(to: &mut W, plan: &[u8], line: &[u8]) -> io::Result<()> {
     let mut out: Output = [7; MAX_STATES];
     let n = length(line, 1);
-    show_answer(of_stored(drift::write_plan(plan, &mut out[..n])));
-    show_output(Operation::Plan, &out, n);
+    show_answer(to, of_stored(drift::write_plan(plan, &mut out[..n])))?;
+    show_output(to, Operation::Plan, &out, n)
 }
 
 // With scratch of the lengths in field k and the next three; a location stands in field 1.
-fn run(operation: Operation, plan: &[u8], line: &[u8], k: usize)
+fn run<W: Write>(
+    to: &mut W,
+    operation: Operation,
+    plan: &[u8],
+    line: &[u8],
+    k: usize,
+) -> io::Result<()>
     requires { k ≤ 2 }
 {
     let mut s1: Scratch = [7; MAX_STATES];
@@ -94,94 +100,98 @@ fn run(operation: Operation, plan: &[u8], line: &[u8], k: usize)
     let n3 = lent.s3;
     let n4 = lent.s4;
     let n = lent.out;
-    show_answer(call(
-        operation,
-        plan,
-        location,
-        &mut s1[..n1],
-        &mut s2[..n2],
-        &mut s3[..n3],
-        &mut s4[..n4],
-        &mut out[..n],
-    ));
-    show_zeros(&s1, &s2, &s3, &s4);
-    show_output(operation, &out, n);
+    show_answer(
+        to,
+        call(
+            operation,
+            plan,
+            location,
+            &mut s1[..n1],
+            &mut s2[..n2],
+            &mut s3[..n3],
+            &mut s4[..n4],
+            &mut out[..n],
+        ),
+    )?;
+    show_zeros(to, &s1, &s2, &s3, &s4)?;
+    show_output(to, operation, &out, n)
 }
 
-fn answer(plan: &[u8], line: &[u8]) {
+fn answer<W: Write>(to: &mut W, plan: &[u8], line: &[u8]) -> io::Result<()> {
     let operation = operation_of(line);
     match operation {
-        Operation::Margin => show_answer(of_tolerance(drift::margin(plan))),
-        Operation::Room => show_answer(of_space(drift::room(plan))),
-        Operation::Check => check(plan, line),
-        Operation::Plan => shorten(plan, line),
-        Operation::Rounds => show_answer(rounds(plan)),
+        Operation::Margin => show_answer(to, of_tolerance(drift::margin(plan))),
+        Operation::Room => show_answer(to, of_space(drift::room(plan))),
+        Operation::Check => check(to, plan, line),
+        Operation::Plan => shorten(to, plan, line),
+        Operation::Rounds => show_answer(to, rounds(plan)),
         Operation::Marks
         | Operation::MarksJoint
         | Operation::Write
         | Operation::WriteJoint
-        | Operation::Soonest => run(operation, plan, line, 2),
-        _ => run(operation, plan, line, 1),
+        | Operation::Soonest => run(to, operation, plan, line, 2),
+        _ => run(to, operation, plan, line, 1),
     }
 }
 
-fn show(plan: &[u8], line: &[u8]) {
-    say(line);
+fn show<W: Write>(to: &mut W, plan: &[u8], line: &[u8]) -> io::Result<()> {
+    say(to, line)?;
     if letter(line, 0) != b'#' {
-        say(b": ");
-        answer(plan, line);
+        say(to, b": ")?;
+        answer(to, plan, line)?;
     }
-    say(b"\n");
+    say(to, b"\n")
 }
 
 // The lines of a plan, from an offset up to the next plan.
-fn cases(plan: &[u8], text: &[u8], at: usize) -> usize
+fn cases<W: Write>(to: &mut W, plan: &[u8], text: &[u8], at: usize) -> io::Result<usize>
     requires { at ≤ length text.now }
-    ensures { (at ≤ result) × (result ≤ length text.now) }
+    ensures { IfOk result (λ r. (at ≤ r) × (r ≤ length text.now)) }
 {
     let mut p = at;
     while p < text.len() {
         if text[p] == b'-' {
-            return p;
+            return Ok(p);
         }
         let end = line_end(text, p);
-        show(plan, &text[p..end]);
+        show(to, plan, &text[p..end])?;
         p = after(text, end);
     }
-    p
+    Ok(p)
 }
 
 // A plan that stands at an offset, and its lines.
-fn planned(text: &[u8], at: usize) -> usize
+fn planned<W: Write>(to: &mut W, text: &[u8], at: usize) -> io::Result<usize>
     requires { at ≤ length text.now }
-    ensures { (at ≤ result) × (result ≤ length text.now) }
+    ensures { IfOk result (λ r. (at ≤ r) × (r ≤ length text.now)) }
 {
     let end = line_end(text, at);
     let mut bytes = [0u8; BYTES];
     let n = numbers(&text[at..end], &mut bytes);
-    cases(&bytes[..n], text, after(text, end))
+    cases(to, &bytes[..n], text, after(text, end))
 }
 
 // A plan that is announced at an offset.
-fn plan(text: &[u8], at: usize) -> usize
+fn plan<W: Write>(to: &mut W, text: &[u8], at: usize) -> io::Result<usize>
     requires { at < length text.now }
-    ensures { (at < result) × (result ≤ length text.now) }
+    ensures { IfOk result (λ r. (at < r) × (r ≤ length text.now)) }
 {
     let end = line_end(text, at);
-    say(&text[at..end]);
-    say(b"\n");
-    planned(text, after(text, end))
+    say(to, &text[at..end])?;
+    say(to, b"\n")?;
+    planned(to, text, after(text, end))
 }
 
-fn plans(text: &[u8]) {
+fn plans<W: Write>(to: &mut W, text: &[u8]) -> io::Result<()> {
     let mut p = 0;
     while p < text.len() {
-        p = plan(text, p);
+        p = plan(to, text, p)?;
     }
+    Ok(())
 }
 
-fn main() {
+fn main(rt: HostRuntime) -> io::Result<()> {
     let mut text = [0u8; TEXT];
-    let n = io::read_full(STDIN_FILENO, &mut text);
-    plans(&text[..n]);
+    let n = read_full(&mut rt.reader(), &mut text)?;
+    plans(&mut io::writer(&rt), &text[..n])
 }

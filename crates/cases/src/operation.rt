@@ -1,9 +1,7 @@
 // What a line asks for.
-ghost use Rattle.std.specs.Prelude.{◌≤◌};
-
 use lines::letter;
 
-#[derive(Drop)]
+#[derive(Clone, Copy)]
 pub enum Operation {
     Judge,
     JudgeJoint,

@@ -1,4 +1,5 @@
 // The least of the shortest closed walks of a node, by its nodes. The search stops at the first level from which a step leads back.
+#![tactic(auto)]
 
 ghost use Rattle.std.specs.Prelude.{◌≡◌, Bool, ℕ, ◌-◌, ◌≤◌, ◌<◌, length, take, eqb};
 ghost use Rattle.limits.specs.Limits.{max_states};

@@ -1,6 +1,7 @@
 // Closed walks and heights of all nodes of a graph, in one pass over its nodes and steps: the strongly connected components, found on a stack of
 // unfinished nodes that is cut into segments. A segment is strongly connected as far as is known; when its first node has no successor left, it
 // is a component.
+#![tactic(auto)]
 
 ghost use Rattle.std.specs.Prelude.{◌≡◌, true, ℕ, suc, ◌+◌, ◌-◌, ◌≤◌, ◌<◌, length, set, ltb};
 ghost use Rattle.theory.specs.Below.{bit};
@@ -15,7 +16,7 @@ use limits::Word;
 use limits::zero::clear;
 
 // How far the stack, the segments and the path reach, and the place of the current node, the path's last, on the stack.
-#[derive(Drop)]
+#[derive(Clone, Copy)]
 pub struct Tops {
     pub top: usize,
     pub segs: usize,

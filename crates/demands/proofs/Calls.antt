@@ -7,7 +7,6 @@ use Prim.Native.Nat.{ℕ}
 use native.Mathlib.Omega.{arith}
 use lib.Dec.{eqb, ltb}
 use borrow.Author.Tests.{eqb-true, ne_eqb}
-use Rattle.theory.specs.Sheet.{Sheet}
 use Rattle.theory.proofs.Below.{cond_ind}
 use Rattle.number.specs.Answer.{Answer, answer}
 use Rattle.model.specs.declared.Model.{Model}

@@ -1,5 +1,6 @@
 // The public operations, each a crate of its own. Each takes any bytes and any slices, and its contract says what it answers and what it leaves in all
 // that it was lent.
+#![tactic(auto)]
 
 pub use op_check::{Evidence, check_evidence};
 pub use op_harm::{Onset, harm};

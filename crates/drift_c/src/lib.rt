@@ -1,4 +1,5 @@
 // The operations for callers in C and other languages: each slice is a pointer and a length, and the answer is one number made of fields.
+#![tactic(auto)]
 
 ghost use Rattle.std.specs.Prelude.{◌≡◌, length};
 ghost use Rattle.call.specs.Scratch.{lengths, ScratchLeft};

@@ -1,4 +1,6 @@
 // Walks of edges on the drawing alone: whether a closed walk that counts leaves some clock unreset, or has no edge that resets every clock.
+#![tactic(auto)]
+
 mod cycle;
 mod joint;
 mod opening;

@@ -1,5 +1,5 @@
 -- Evidence from anywhere: what passes, and what the check answers.
-use Rattle.std.specs.Prelude.{◌≡◌, cond, ◌⊎◌, List, [], ◌∷◌, ℕ, ◌≤◌, eqb}
+use Rattle.std.specs.Prelude.{◌≡◌, cond, ◌⊎◌, List, ◌∷◌, ℕ, ◌≤◌, eqb}
 use Rattle.theory.specs.Sheet.{Sheet}
 use Rattle.theory.specs.Replay.{Move, Passes}
 use Rattle.number.specs.Number.{on_number}

@@ -1,4 +1,5 @@
 // Evidence from anywhere, checked for a model: a sheet or a trail, by its first number.
+#![tactic(auto)]
 
 ghost use Rattle.std.specs.Prelude.{◌≡◌, ◌≤◌, length};
 ghost use Rattle.limits.specs.Limits.{small_regions};
@@ -15,7 +16,7 @@ use number::Number;
 use shapes::{MAX_SHAPES, SMALL_SHAPES};
 
 // What passed, or the refusal.
-#[derive(Drop)]
+#[derive(Clone, Copy)]
 pub enum Evidence {
     Sheet,
     Trail,

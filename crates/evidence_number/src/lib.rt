@@ -1,5 +1,6 @@
 // The numbers of evidence. What reads evidence reads its numbers here, and what speaks of their spellings uses the names of specs/Evidence.
 // 02 (b): only here, and nowhere in `number`, padding is refused.
+#![tactic(auto)]
 
 ghost use Rattle.std.specs.Prelude.{◌≡◌};
 ghost use Rattle.evidence_number.specs.Evidence.{read_evidence};

@@ -1,4 +1,5 @@
 // Our evidence for a model into a lent output: measured first, and written only where it fits.
+#![tactic(auto)]
 
 ghost use Rattle.std.specs.Prelude.{◌≡◌, Bool, true, false, ◌≤◌, ◌<◌, length};
 ghost use Rattle.limits.specs.Limits.{small_regions};
@@ -27,7 +28,7 @@ use shapes::{MAX_SHAPES, SMALL_SHAPES};
 use trail_writer::put_trail;
 
 // The verdict with the number of bytes written, or the refusal, 9.
-#[derive(Drop)]
+#[derive(Clone, Copy)]
 pub enum Written {
     Safe(usize),
     Unsafe(usize),

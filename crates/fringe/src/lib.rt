@@ -1,4 +1,5 @@
 // The fringe of a sheet: the states that are out and share a corner with an in-state of their location.
+#![tactic(auto)]
 
 ghost use Rattle.shapes.specs.Layout.{corners_in};
 ghost use Rattle.fringe.specs.Flags.{FringeFlags, FringeAsked, StateFlag, LocationFlags, StateAsked, LocationAsked};

@@ -1,7 +1,7 @@
 -- No label of a jump leads where the label of time does, from a state with one clock or more.
 use mathlib.Core.Path.{◌≡◌, sym, ap, ◌∙◌}
 use mathlib.Core.List.{[], ◌∷◌}
-use Prim.Native.Nat.{ℕ, suc, ◌≤◌, ◌<◌}
+use Prim.Native.Nat.{ℕ, zero, suc, ◌≤◌, ◌<◌}
 use native.Mathlib.Omega.{arith}
 use lib.ListN.{length}
 use Rattle.theory.specs.Labels.{Leads}
@@ -13,6 +13,7 @@ use Rattle.theory.proofs.StateGraph.{region_of_number, region_lawful, allowed_st
 use Rattle.robust.proofs.TimeOrJump.{jump_not_time}
 
 some_clock : (n M : ℕ) → 1 ≤ n → Lawful n M [] → ⊥
+some_clock zero M h a = elim h [ ]
 some_clock (suc n) M h a = elim a.capped [ ]
 
 module _ (m : Automaton) (locations : ℕ) (W : Within m locations) (some : 1 ≤ m.clocks) where

@@ -1,5 +1,6 @@
 // How many jumps a walk through the fringe of a sheet takes at most. Every step from a fringe state lowers the height, so from height 0 up the ranks of
 // a state's successors are there before its own: each state and each step is looked at once.
+#![tactic(auto)]
 
 ghost use Rattle.std.specs.Prelude.{◌≡◌, cond, ◌+◌, ◌≤◌, ◌<◌, max, eqb, length};
 ghost use Rattle.theory.specs.Sheet.{in_of, height_of};

@@ -1,3 +1,5 @@
+#![tactic(auto)]
+
 // The states of a model by their numbers: allowed, forbidden, time and jump steps, faces, shared corners.
 // `table` is the list of the model's regions, packed, as region_table::select gives it; state p is region p % len of location p / len.
 ghost use Rattle.std.specs.Prelude.{◌≡◌, cond, ◌<◌, ltb};
@@ -14,7 +16,7 @@ use region::{Later, Region};
 use region_table::Found;
 
 // Where a step leads.
-#[derive(Drop)]
+#[derive(Clone, Copy)]
 pub enum Next {
     To(usize),
     Nothing,

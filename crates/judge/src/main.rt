@@ -1,46 +1,54 @@
 // Document 01's first program: judges the plan on standard input. Three lines, or the refusal; 9 where our evidence would not fit the output.
+#![tactic(auto)]
+
+ghost use Rattle.printing.specs.Text.{Writes};
+ghost use Rattle.judge.specs.Verdict.{verdict_text};
 
 use drift::{Judgement, Written};
-use libc::STDIN_FILENO;
 use printing::{line, refuse, say};
+use reading::read_full;
+use std::io;
+use std::io::Write;
 
 // The longest plan takes 762 bytes, so any longer input is refused within these, and no other refusal is lost.
 const INPUT: usize = 4096;
 
 const OUTPUT: usize = 65536;
 
-fn show(found: Judgement) {
+fn show<W: Write>(to: &mut W, found: Judgement) -> io::Result<()>
+    ensures { Writes (W.contents to.old) (W.contents to.new) result (verdict_text found) }
+{
     match found {
         Judgement::Safe(states, count) => {
-            say(b"verdict safe\n");
-            line(b"states ", states as u64);
-            line(b"in ", count as u64);
+            say(to, b"verdict safe\n")?;
+            line(to, b"states ", states as u64)?;
+            line(to, b"in ", count as u64)
         }
         Judgement::Unsafe(states, count) => {
-            say(b"verdict unsafe\n");
-            line(b"states ", states as u64);
-            line(b"steps ", count as u64);
+            say(to, b"verdict unsafe\n")?;
+            line(to, b"states ", states as u64)?;
+            line(to, b"steps ", count as u64)
         }
-        Judgement::Refused(number) => refuse(number),
+        Judgement::Refused(number) => refuse(to, number),
     }
 }
 
-fn judge(plan: &[u8], out: &mut [u8]) {
+fn judge<W: Write>(to: &mut W, plan: &[u8], out: &mut [u8]) -> io::Result<()> {
     let mut a = [0; 4000];
     let mut b = [0; 4000];
     let mut c = [0; 4000];
     let mut d = [0; 4000];
     let written = drift::write_evidence(plan, &mut a, &mut b, &mut c, &mut d, out);
     if let Written::Refused(number) = written {
-        refuse(number);
+        refuse(to, number)
     } else {
-        show(drift::judge(plan, &mut a, &mut b, &mut c, &mut d));
+        show(to, drift::judge(plan, &mut a, &mut b, &mut c, &mut d))
     }
 }
 
-fn main() {
+fn main(rt: HostRuntime) -> io::Result<()> {
     let mut input = [0u8; INPUT];
-    let n = io::read_full(STDIN_FILENO, &mut input);
+    let n = read_full(&mut rt.reader(), &mut input)?;
     let mut out = [0u8; OUTPUT];
-    judge(&input[..n], &mut out);
+    judge(&mut io::writer(&rt), &input[..n], &mut out)
 }

@@ -1,3 +1,5 @@
+#![tactic(auto)]
+
 // The least time from the start to a location with perfect clocks: a search by levels, a level for each time. Jumps take no time, so a level is closed
 // under jumps before a unit of waiting, two time steps, leads on. Only states at whole times are met.
 

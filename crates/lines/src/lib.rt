@@ -1,7 +1,8 @@
 // Lines of text that hold cases: where a line ends, what it begins with, and the numbers on it in decimal, set apart by commas.
+#![tactic(auto)]
 
 ghost use Rattle.std.specs.Prelude.{◌≡◌, ◌+◌, ◌≤◌, min, length};
-ghost use Rattle.io.specs.Counts.{IsPrefixLen};
+ghost use Rattle.std.specs.Counts.{IsPrefixLen};
 
 // The greatest number of a long field.
 const MAX: u64 = 18446744073709551615;

@@ -1,4 +1,6 @@
 // The margin of a model: how slight a drift is harmless for ever, counted by the half values on entry.
+#![tactic(auto)]
+
 ghost use Rattle.std.specs.Prelude.{◌≡◌, cond, [], ◌∷◌, ◌+◌, ◌*◌, ◌≤◌, ◌<◌, min, ltb, eqb, take};
 ghost use Rattle.theory.specs.Below.{bit};
 ghost use Rattle.robust.specs.Margin.{half_values, entry_limits, entries_by, entries_of, margin as marginOf, max_factor, max_values};

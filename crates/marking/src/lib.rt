@@ -1,4 +1,5 @@
 // The distance of every state from the start under the four steps, by a queue: each state, edge, face and corner slot is looked at once.
+#![tactic(auto)]
 
 ghost use Rattle.std.specs.Prelude.{◌≡◌, ℕ, ◌≤◌, ◌<◌, length, get_or};
 ghost use Rattle.theory.specs.Adjacency.{Rows};

@@ -29,6 +29,7 @@ spells_ind P one two three (last {a = a} h) = one a h
 spells_ind P one two three (more {a = a} h (last {a = b} k)) = two a b h k
 spells_ind P one two three (more {a = a} h (more {a = b} k (last {a = c} m))) =
     subst (P (a ∷ b ∷ c ∷ [])) (omega arith) (three a b c h k m)
+spells_ind P one two three (more {a = a} h (more {a = b} k (more {v = v} {bs = bs} _ x16))) = elim x16 [ ]
 
 module _ (bs : List ℕ) where
   -- what holds of each way to go on after a byte holds of the reading

@@ -193,7 +193,7 @@ module _ {read : List ℕ → ℕ → Number} {R : List ℕ → ℕ → Type 0} 
       let (i, e, s') = spelled_first s in
       let (j, f, t') = spelled_first t in
       let q = sym e ∙ f in
-      ap₂ ◌∷◌ (ap value_in q) (spelled_once vs ws s' (subst (λ (k : ℕ). SpelledBy R (drop k bs) ws) (sym (ap end_in q)) t'))
+      ap₂ ◌∷◌ (ap value_in q) (spelled_once {bs = drop i bs} vs ws s' (subst (λ (k : ℕ). SpelledBy R (drop k bs) ws) (sym (ap end_in q)) t'))
 
   -- shortest forms spell their numbers
   pub shortest_spelled : (vs : List ℕ) → Fit vs → SpelledBy R (spell_all vs) vs

@@ -1,4 +1,6 @@
 // Numbers of one to three groups of seven bits, lowest first: read and written.
+#![tactic(auto)]
+
 ghost use Rattle.std.specs.Prelude.{◌≡◌, ◌+◌, ◌<◌, ◌≤◌, ◌^◌, length};
 ghost use Rattle.std.proofs.lemmas.List.Edits.{sets};
 ghost use Rattle.number.specs.Number.{read_number, number_refusal, spell};
@@ -7,14 +9,14 @@ ghost use Rattle.number.specs.Shortest.{read_spelled};
 use limits::refusal::{ENDS_TOO_SOON, THIRD_TOP_BIT};
 
 // What reading a number finds: its value and the offset after it, or the refusal, 1 or 2.
-#[derive(Drop)]
+#[derive(Clone, Copy)]
 pub enum Number {
     Value(u32, usize),
     Refused(u8),
 }
 
 // The same, and whether the form was shortest.
-#[derive(Drop)]
+#[derive(Clone, Copy)]
 pub enum Spelled {
     Shortest(u32, usize),
     Padded(u32, usize),

@@ -1,4 +1,5 @@
 // The evidence check: anyone's evidence for a plan.
+#![tactic(auto)]
 
 ghost use Rattle.std.specs.Prelude.{◌≡◌};
 ghost use Rattle.model.specs.Model.{Lawful};

@@ -1,4 +1,5 @@
 // How soon drift does harm, by the plan's own trail.
+#![tactic(auto)]
 
 ghost use Rattle.std.specs.Prelude.{◌≡◌};
 ghost use Rattle.number.specs.Answer.{answer};
@@ -12,7 +13,7 @@ use model::Model;
 use outlook::Outlook;
 
 // The number of states, and base and rate if the plan is unsafe.
-#[derive(Drop)]
+#[derive(Clone, Copy)]
 pub enum Onset {
     Safe(usize),
     Within(usize, u64, u64),

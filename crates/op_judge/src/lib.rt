@@ -1,4 +1,5 @@
 // The judge: the verdict on a plan.
+#![tactic(auto)]
 
 ghost use Rattle.std.specs.Prelude.{◌≡◌};
 ghost use Rattle.theory.specs.WithoutTouch.{with_touch};
@@ -14,7 +15,7 @@ use limits::Word;
 use model::Model;
 
 // The verdict, with the number of states, and the marked states or the steps of our trail.
-#[derive(Drop)]
+#[derive(Clone, Copy)]
 pub enum Judgement {
     Safe(usize, usize),
     Unsafe(usize, usize),

@@ -1,4 +1,5 @@
 // The quicker judge, for plans with a joint reset: the judge's own code over the system without touch steps, so that no closed walks are searched.
+#![tactic(auto)]
 
 ghost use Rattle.std.specs.Prelude.{◌≡◌};
 ghost use Rattle.theory.specs.WithoutTouch.{without_touch};

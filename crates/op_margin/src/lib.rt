@@ -1,10 +1,11 @@
 // The margin by the drawing, beyond 01: how slight a drift is harmless for ever.
+#![tactic(auto)]
 
 ghost use Rattle.std.specs.Prelude.{◌≡◌};
 ghost use Rattle.op_margin.specs.Margin.{margin_answer, tolerance_answer};
 
 // The number of states, and a number A: every drift e/D below 1/A is harmless for ever if the plan is safe.
-#[derive(Drop)]
+#[derive(Clone, Copy)]
 pub enum Tolerance {
     Bound(usize, u32),
     Refused(u8),

@@ -1,4 +1,5 @@
 // The marks: a byte for each state of a plan.
+#![tactic(auto)]
 
 ghost use Rattle.std.specs.Prelude.{◌≡◌, [], ◌∷◌, length};
 ghost use Rattle.theory.specs.Below.{bit};
@@ -16,7 +17,7 @@ use limits::refusal::OUTPUT_SHORT;
 use model::Model;
 
 // That the marks are written, with the number of states.
-#[derive(Drop)]
+#[derive(Clone, Copy)]
 pub enum Marking {
     Marked(usize),
     Refused(u8),

@@ -1,4 +1,5 @@
 // The marks of the quicker judge, for plans with a joint reset: those of the system without touch steps.
+#![tactic(auto)]
 
 ghost use Rattle.std.specs.Prelude.{◌≡◌, [], ◌∷◌, length};
 ghost use Rattle.number.specs.Answer.{answer};

@@ -1,4 +1,5 @@
 // The plan writer: a plan in shortest numbers.
+#![tactic(auto)]
 
 ghost use Rattle.std.specs.Prelude.{◌≡◌, length};
 ghost use Rattle.spelling.specs.Calls.{stored_answer};

@@ -1,11 +1,12 @@
 // Room known beforehand: what to lend the other operations, from the plan alone.
+#![tactic(auto)]
 
 ghost use Rattle.std.specs.Prelude.{◌≡◌, ◌≤◌};
 ghost use Rattle.limits.specs.Limits.{max_states};
 ghost use Rattle.op_room.specs.Room.{sheet_limit, room_answer, space_answer};
 
 // S, the length of each scratch slice, the most bytes of a sheet, and the most steps of our trail.
-#[derive(Drop)]
+#[derive(Clone, Copy)]
 pub enum Space {
     Needs(usize, usize, usize, usize),
     Refused(u8),

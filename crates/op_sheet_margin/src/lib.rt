@@ -1,4 +1,5 @@
 // How slight a drift is harmless for ever, by the plan's own sheet.
+#![tactic(auto)]
 
 ghost use Rattle.std.specs.Prelude.{◌≡◌};
 ghost use Rattle.number.specs.Answer.{answer};
@@ -12,7 +13,7 @@ use model::Model;
 use outlook::Outlook;
 
 // The number of states, and the margin if the plan is safe.
-#[derive(Drop)]
+#[derive(Clone, Copy)]
 pub enum Bound {
     Safe(usize, usize),
     Unsafe(usize),

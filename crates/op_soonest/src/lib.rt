@@ -1,4 +1,5 @@
 // Soonest sounding, 02 (e): the least time from the start to a location with perfect clocks.
+#![tactic(auto)]
 
 ghost use Rattle.std.specs.Prelude.{◌≡◌, [], ◌∷◌, length};
 ghost use Rattle.number.specs.Answer.{answer};
@@ -13,7 +14,7 @@ use limits::refusal::UNREACHED;
 use model::Model;
 
 // The least time, in units.
-#[derive(Drop)]
+#[derive(Clone, Copy)]
 pub enum Arrival {
     Time(usize),
     Refused(u8),

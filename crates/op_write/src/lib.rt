@@ -1,4 +1,5 @@
 // The evidence writer: our evidence for a plan.
+#![tactic(auto)]
 
 ghost use Rattle.std.specs.Prelude.{◌≡◌, length};
 ghost use Rattle.model.specs.Model.{Lawful};

@@ -1,4 +1,5 @@
 // The evidence writer for plans with a joint reset: our evidence of the system without touch steps.
+#![tactic(auto)]
 
 ghost use Rattle.std.specs.Prelude.{◌≡◌, length};
 ghost use Rattle.model.specs.Model.{Lawful};

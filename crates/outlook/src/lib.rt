@@ -1,4 +1,5 @@
 // What drift does to a plan in the end, from its tables: how slight a drift is harmless for ever, or how soon it does harm.
+#![tactic(auto)]
 
 ghost use Rattle.std.specs.Prelude.{◌≡◌, true, false, ◌*◌, ◌≤◌, length};
 ghost use Rattle.limits.specs.Limits.{max_states, small_regions};
@@ -21,7 +22,7 @@ use model::Model;
 use shapes::{MAX_SHAPES, SMALL_SHAPES};
 
 // The margin of our sheet if the plan is safe, or else the base and the rate of our trail; 0 for what is not asked for.
-#[derive(Drop)]
+#[derive(Clone, Copy)]
 pub enum Outlook {
     Safe(usize),
     Unsafe(u64, u64),

@@ -1,4 +1,6 @@
 // The bytes of a model, judged number by number.
+#![tactic(auto)]
+
 ghost use Rattle.std.specs.Prelude.{◌≡◌, ◌-◌, ◌<◌, ◌≤◌, ◌^◌};
 ghost use Rattle.limits.specs.Limits.{max_clocks, max_ceiling, max_locations, max_edges};
 ghost use Rattle.model.specs.Each.{each};
@@ -25,7 +27,7 @@ const MARKS: u8 = NEWEST_MARK as u8;
 
 // What reading a model gives: 0, its mark and the model; or the refusal, no mark and a blank model. The mark decides what a blank stay field means, and
 // nothing else: with the limits resolved it stands beside the model, not in it.
-#[derive(Drop)]
+#[derive(Clone, Copy)]
 pub struct Reading {
     pub refusal: u8,
     pub mark: u8,
@@ -33,14 +35,14 @@ pub struct Reading {
 }
 
 // A number within its range and the offset after it, or its refusal.
-#[derive(Drop)]
+#[derive(Clone, Copy)]
 pub enum Field {
     Value(u8, usize),
     Refused(u8),
 }
 
 // How far the reading is: nothing more is read once the refusal is not 0.
-#[derive(Drop)]
+#[derive(Clone, Copy)]
 pub struct State {
     pub refusal: u8,
     pub at: usize,

@@ -1,22 +1,25 @@
 // Writes the shortest form of the plan on standard input, or the refusal: two files hold one plan where it writes the same for both.
+#![tactic(auto)]
 
-use libc::STDIN_FILENO;
 use op_plan::Stored;
 use printing::{refuse, send};
+use reading::read_full;
+use std::io;
+use std::io::Write;
 
 // The longest plan takes 762 bytes, so any longer input is refused within these, and no other refusal is lost. The shortest form is no longer than its plan.
 const BYTES: usize = 4096;
 
-fn write(plan: &[u8], out: &mut [u8]) {
+fn write<W: Write>(to: &mut W, plan: &[u8], out: &mut [u8]) -> io::Result<()> {
     match op_plan::write_plan(plan, out) {
-        Stored::Bytes(n) => send(out, n),
-        Stored::Refused(number) => refuse(number),
+        Stored::Bytes(n) => send(to, out, n),
+        Stored::Refused(number) => refuse(to, number),
     }
 }
 
-fn main() {
+fn main(rt: HostRuntime) -> io::Result<()> {
     let mut input = [0u8; BYTES];
-    let n = io::read_full(STDIN_FILENO, &mut input);
+    let n = read_full(&mut rt.reader(), &mut input)?;
     let mut out = [0u8; BYTES];
-    write(&input[..n], &mut out);
+    write(&mut io::writer(&rt), &input[..n], &mut out)
 }

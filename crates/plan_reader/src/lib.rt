@@ -1,4 +1,5 @@
 // A plan read from bytes and admitted: refused for its bytes, refused for a walk of its edges, or accepted.
+#![tactic(auto)]
 
 ghost use Rattle.std.specs.Prelude.{◌≡◌};
 ghost use Rattle.plan_reader.specs.Accept.{read_model};

@@ -1,4 +1,5 @@
 // A plan in shortest numbers into a lent output, part by part; each answers the offset after it. With no output they measure.
+#![tactic(auto)]
 
 ghost use Rattle.std.specs.Prelude.{◌≡◌, [], ◌∷◌, ◌+◌, ◌<◌, ◌≤◌, length};
 ghost use Rattle.limits.specs.Limits.{max_clocks, max_locations, max_edges};

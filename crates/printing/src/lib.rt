@@ -1,31 +1,83 @@
-// What programs write on standard output: words, numbers in decimal, bytes, and the line of a refusal.
+// What programs write on standard output: words, numbers in decimal, bytes, and the line of a refusal. Each writes to any writer, and all of its text, or a
+// front of it where a write fails.
+#![tactic(auto)]
 
-use libc::STDOUT_FILENO;
+ghost use Rattle.std.specs.Prelude.{[], length, take, nat_le, if◌then◌else◌};
+ghost use Rattle.std.specs.Io.{WritesAtMost};
+ghost use Rattle.std.specs.Io.KnownBytes.{WriteAppends};
+ghost use Rattle.printing.specs.Text.{word_text, line_text, refusal_text, Writes};
 
-pub fn say(text: &[u8]) {
-    io::write_all(STDOUT_FILENO, text);
+use itoa::Buffer;
+use std::io;
+use std::io::{ErrorKind, Write};
+
+// One write, tried again where a signal interrupts it.
+fn write_some<W: Write>(to: &mut W, text: &[u8]) -> io::Result<usize>
+    ensures bound { WritesAtMost result text.now }
+    ensures bytes { WriteAppends (W.contents to.old) (W.contents to.new) result text.now }
+{
+    'tries: for _ in 0..u64::MAX {
+        match to.write(text) {
+            Ok(n) => return Ok(n),
+            Err(e) => {
+                if e.kind() != ErrorKind::Interrupted {
+                    return Err(e);
+                }
+            }
+        }
+    }
+    Err(io::Error::from(ErrorKind::TimedOut))
+}
+
+pub fn say<W: Write>(to: &mut W, text: &[u8]) -> io::Result<()>
+    ensures { Writes (W.contents to.old) (W.contents to.new) result text.now }
+{
+    let mut done = 0;
+    while done < text.len() {
+        let n = write_some(to, &text[done..])?;
+        if n == 0 {
+            return Err(io::Error::from(ErrorKind::WriteZero));
+        }
+        done += n;
+    }
+    Ok(())
 }
 
 // A word and a number.
-pub fn put(word: &[u8], number: u64) {
-    say(word);
-    io::print_decimal(STDOUT_FILENO, number);
+#[tactic(auto, using(crate::proofs::Writes::writes_then, crate::proofs::Writes::cut))]
+pub fn put<W: Write>(to: &mut W, word: &[u8], number: u64) -> io::Result<()>
+    ensures { Writes (W.contents to.old) (W.contents to.new) result
+        (word_text word.now number) }
+{
+    say(to, word)?;
+    say(to, Buffer::new().format(number).as_bytes())
 }
 
 // A line of both.
-pub fn line(word: &[u8], number: u64) {
-    put(word, number);
-    say(b"\n");
+#[tactic(auto, using(crate::proofs::Writes::writes_then, crate::proofs::Writes::cut))]
+pub fn line<W: Write>(to: &mut W, word: &[u8], number: u64) -> io::Result<()>
+    ensures { Writes (W.contents to.old) (W.contents to.new) result
+        (line_text word.now number) }
+{
+    put(to, word, number)?;
+    say(to, b"\n")
 }
 
 // 01: "`refused` and its number".
-pub fn refuse(number: u8) {
-    line(b"refused ", number as u64);
+pub fn refuse<W: Write>(to: &mut W, number: u8) -> io::Result<()>
+    ensures { Writes (W.contents to.old) (W.contents to.new) result
+        (refusal_text number) }
+{
+    line(to, b"refused ", number as u64)
 }
 
-// The first n bytes.
-pub fn send(out: &[u8], n: usize) {
+// The first n bytes, or none where there are fewer.
+pub fn send<W: Write>(to: &mut W, out: &[u8], n: usize) -> io::Result<()>
+    ensures { Writes (W.contents to.old) (W.contents to.new) result
+        (if nat_le n (length out.now) then take n out.now else []) }
+{
     if n <= out.len() {
-        say(&out[..n]);
+        say(to, &out[..n])?;
     }
+    Ok(())
 }

@@ -1,13 +1,15 @@
 // 01: "A reader over the lent evidence serves outside callers, giving each next number, or 1 or 2 and then staying at that number's first byte."
 // 02 (b): with each number it tells "whether the form was shortest, and never gives 15 itself".
-// A function over a struct that holds a slice is proved by hand; so `next` leaves the work to functions of the slice and the offset.
+// `next` leaves the work to functions of the slice and the offset.
+#![tactic(auto)]
+
 ghost use Rattle.std.specs.Prelude.{◌≡◌};
 ghost use Rattle.reader.specs.Reader.{after_number, next_number, number_answer, next_answer, advanced};
 
 use number::Spelled;
 
 // The evidence, and where the next number begins.
-#[derive(Drop)]
+#[derive(Clone, Copy)]
 pub struct Reader<'a> {
     pub bytes: &'a [u8],
     pub at: usize,

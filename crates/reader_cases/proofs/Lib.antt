@@ -1,4 +1,4 @@
--- Why the program's one function over the struct that holds a slice gives the reader's answer.
+-- Why the program comes to an end, and how a local is lent for a call.
 
 -- A local lent for a call.
 pub mod Loan

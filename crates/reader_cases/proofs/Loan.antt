@@ -7,8 +7,7 @@
 use Prim.Native.Nat.{ℕ}
 use mathlib.Core.List.{[], ◌∷◌}
 use seplogic.Ra.Ura.{Ura}
-use seplogic.Ra.TreeShare.PosShare
-use seplogic.Ra.TreeShare.{full_share}
+use base.Fraction as fraction
 use mir.Syntax.{named}
 use mir.Val.{vptr}
 use base.Logic.{ent, sep, ex, wand, apply∗}
@@ -29,10 +28,10 @@ module _ {M : Type 1} {𝓤 : Ura M} (𝓛 : Logic 𝓤) (R : RattleType) (κ : 
   open 𝓛 use {H, A}
 
   abbrev left : Share
-  left = PosShare.left q
+  left = fraction.left q
 
   abbrev right : Share
-  right = PosShare.right q
+  right = fraction.right q
 
   -- the `&mut` at a value
   abbrev pub lent : R.Denot → ℕ → GName → Item 𝓤
@@ -40,7 +39,7 @@ module _ {M : Type 1} {𝓤 : Ura M} (𝓛 : Logic 𝓤) (R : RattleType) (κ : 
 
   -- the way back to α's whole token
   abbrev whole : ℕ → Item 𝓤
-  whole α = raw (wand 𝓤 (A.lft (α ∷ []) right) (A.lft (α ∷ []) full_share))
+  whole α = raw (wand 𝓤 (A.lft (α ∷ []) right) (A.lft (α ∷ []) fraction.full_share))
 
   abbrev pub kept : ℕ → GName → Item 𝓤
   kept α γ = ‵ (flent (α ∷ κ) (Body (mem R) b o γ)) ⊛ whole α
@@ -71,6 +70,6 @@ module _ {M : Type 1} {𝓤 : Ura M} (𝓛 : Logic 𝓤) (R : RattleType) (κ : 
       move ! (2 ∷ 1 ∷ []) $ use2 𝓛 (‵ (flft κ q)) (𝓛.lfts.lft_join κ q) $
       -- [κ's token; α's share; what was kept; the last value]
       move ! (2 ∷ []) $ split ! $ move ! (3 ∷ 1 ∷ []) $
-      use2 𝓛 (‵ (flft (α ∷ []) full_share)) (apply∗ 𝓤 (A.lft (α ∷ []) right) (A.lft (α ∷ []) full_share)) $
+      use2 𝓛 (‵ (flft (α ∷ []) fraction.full_share)) (apply∗ 𝓤 (A.lft (α ∷ []) right) (A.lft (α ∷ []) fraction.full_share)) $
       lft_end ! tt $ use1 𝓛 (‵ (fdead (α ∷ κ))) (𝓛.lfts.dead-incl (α ∷ κ) (α ∷ []) (meet_⊑_left (α ∷ []) κ)) $
       move ! (0 ∷ 1 ∷ 3 ∷ []) $ use3 𝓛 (later (‵ ((mem R).own_at h b o))) (ref_back 𝓛 R (α ∷ κ) γ h b o) $ await ! tt $ at_once ! $ done !

@@ -1,24 +1,28 @@
 // Pieces of evidence on standard input, each after a byte that says how many bytes it has. For each its bytes, then a line for every number that a
 // reader gives, with the word `padded` where its form was not shortest, and the offset where the reader then stands; at the end the refusal, and, as
 // the reader is asked again, the same refusal.
-ghost use Rattle.std.specs.Prelude.{◌≡◌, ◌<◌, ◌≤◌, length};
+#![tactic(auto)]
+
+ghost use Rattle.std.specs.Prelude.{◌≡◌, ◌<◌, ◌≤◌, length, IfOk};
 ghost use Rattle.reader_cases.specs.Replied.{reader_at, replied, is_refused};
 
-use libc::{STDIN_FILENO, STDOUT_FILENO};
 use number::Spelled;
+use reading::read_full;
+use std::io;
+use std::io::Write;
 
 // What a reader gives, and where it then stands.
-#[derive(Drop)]
+#[derive(Clone, Copy)]
 struct Reply {
     number: Spelled,
     at: usize,
 }
 
-fn say(text: &[u8]) {
-    io::write_all(STDOUT_FILENO, text);
+fn say<W: Write>(to: &mut W, text: &[u8]) -> io::Result<()> {
+    to.write_all(text)
 }
 
-// A reader at an offset is asked once. Only here is the struct in a local, so only this function is proved by hand.
+// A reader at an offset is asked once.
 fn next_at(bytes: &[u8], at: usize) -> Reply
     ensures { result ≡ replied (reader_at bytes.entry at) }
 {
@@ -28,33 +32,32 @@ fn next_at(bytes: &[u8], at: usize) -> Reply
     Reply { number, at: r.at }
 }
 
-fn show_number(found: Spelled) {
+fn show_number<W: Write>(to: &mut W, found: Spelled) -> io::Result<()> {
     match found {
-        Spelled::Shortest(value, _) => {
-            io::print_decimal(STDOUT_FILENO, value as u64);
-        }
+        Spelled::Shortest(value, _) => write!(to, "{value}"),
         Spelled::Padded(value, _) => {
-            io::print_decimal(STDOUT_FILENO, value as u64);
-            say(b" padded");
+            write!(to, "{value}")?;
+            say(to, b" padded")
         }
         Spelled::Refused(refusal) => {
-            say(b"refused ");
-            io::print_decimal(STDOUT_FILENO, refusal as u64);
+            say(to, b"refused ")?;
+            write!(to, "{refusal}")
         }
     }
 }
 
 // The reader's next answer on a line.
-fn ask(bytes: &[u8], at: usize) -> Reply
-    ensures { result ≡ replied (reader_at bytes.entry at) }
+fn ask<W: Write>(to: &mut W, bytes: &[u8], at: usize) -> io::Result<Reply>
+    ensures { IfOk result (λ r. r ≡ replied (reader_at bytes.entry at)) }
 {
     let reply = next_at(bytes, at);
     let number = reply.number;
-    show_number(number);
-    say(b" at ");
-    io::print_decimal(STDOUT_FILENO, reply.at as u64);
-    say(b"\n");
-    reply
+    show_number(to, number)?;
+    say(to, b" at ")?;
+    let at = reply.at;
+    write!(to, "{at}")?;
+    say(to, b"\n")?;
+    Ok(reply)
 }
 
 fn is_refused(found: Spelled) -> bool
@@ -68,32 +71,33 @@ fn is_refused(found: Spelled) -> bool
 }
 
 // Asks up to the first refusal, and once more.
-fn ask_all(bytes: &[u8]) {
+fn ask_all<W: Write>(to: &mut W, bytes: &[u8]) -> io::Result<()> {
     let mut at = 0;
     loop {
-        let reply = ask(bytes, at);
+        let reply = ask(to, bytes, at)?;
         let number = reply.number;
         at = reply.at;
         if is_refused(number) {
             break;
         }
     }
-    ask(bytes, at);
+    ask(to, bytes, at)?;
+    Ok(())
 }
 
-fn show_byte(value: u8) {
-    say(b" ");
-    io::print_decimal(STDOUT_FILENO, value as u64);
+fn show_byte<W: Write>(to: &mut W, value: u8) -> io::Result<()> {
+    say(to, b" ")?;
+    write!(to, "{value}")
 }
 
-fn show_bytes(bytes: &[u8]) {
-    say(b"bytes");
+fn show_bytes<W: Write>(to: &mut W, bytes: &[u8]) -> io::Result<()> {
+    say(to, b"bytes")?;
     let mut i = 0;
     while i < bytes.len() {
-        show_byte(bytes[i]);
+        show_byte(to, bytes[i])?;
         i += 1;
     }
-    say(b"\n");
+    say(to, b"\n")
 }
 
 // The end of a piece that begins at an offset, or of the input where that comes first.
@@ -109,27 +113,28 @@ fn piece_end(start: usize, count: u8, whole: usize) -> usize
 }
 
 // The piece whose length stands at an offset; where the next one's does.
-fn piece(input: &[u8], at: usize) -> usize
+fn piece<W: Write>(to: &mut W, input: &[u8], at: usize) -> io::Result<usize>
     requires { at < length input.now }
-    ensures { (at < result) × (result ≤ length input.now) }
+    ensures { IfOk result (λ r. (at < r) × (r ≤ length input.now)) }
 {
     let start = at + 1;
     let end = piece_end(start, input[at], input.len());
     let bytes = &input[start..end];
-    show_bytes(bytes);
-    ask_all(bytes);
-    end
+    show_bytes(to, bytes)?;
+    ask_all(to, bytes)?;
+    Ok(end)
 }
 
-fn pieces(input: &[u8]) {
+fn pieces<W: Write>(to: &mut W, input: &[u8]) -> io::Result<()> {
     let mut at = 0;
     while at < input.len() {
-        at = piece(input, at);
+        at = piece(to, input, at)?;
     }
+    Ok(())
 }
 
-fn main() {
+fn main(rt: HostRuntime) -> io::Result<()> {
     let mut input = [0u8; 4096];
-    let n = io::read_full(STDIN_FILENO, &mut input);
-    pieces(&input[..n]);
+    let n = read_full(&mut rt.reader(), &mut input)?;
+    pieces(&mut io::writer(&rt), &input[..n])
 }

@@ -1,3 +1,5 @@
+#![tactic(auto)]
+
 // Regions of up to three clocks (01, "Regions"), by value: time successor, reset, corners, faces, and the packed number.
 ghost use Rattle.std.specs.Prelude.{◌≡◌, cond, ◌&&◌, ◌||◌, [], ◌∷◌, map, ◌+◌, ◌≤◌, ◌<◌, max, eqb, leb};
 ghost use Rattle.theory.specs.Lists.{every, some, down};
@@ -17,7 +19,7 @@ pub const PACKED_BOUND: u32 = 1000000;
 const BASE: Word = limits::POINT_BASE as Word;
 
 // A whole part and a rank for each clock; clocks past the model's number are 0.
-#[derive(Drop)]
+#[derive(Clone, Copy)]
 pub struct Region {
     pub w1: u8,
     pub w2: u8,
@@ -28,14 +30,14 @@ pub struct Region {
 }
 
 // The region next in time, or none past the ceiling.
-#[derive(Drop)]
+#[derive(Clone, Copy)]
 pub enum Later {
     Next(Region),
     Past,
 }
 
 // A whole point.
-#[derive(Drop)]
+#[derive(Clone, Copy)]
 pub struct Point {
     pub x1: u8,
     pub x2: u8,
@@ -43,7 +45,7 @@ pub struct Point {
 }
 
 // The corners of a region as numbers, by the thresholds 4, 3, 2, 1; some more than once.
-#[derive(Drop)]
+#[derive(Clone, Copy)]
 pub struct Codes {
     pub c4: Word,
     pub c3: Word,

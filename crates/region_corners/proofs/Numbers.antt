@@ -1,9 +1,8 @@
 -- Regions by their numbers: what a struct that is region i comes with, and how many regions there are.
-use Prim.Native.Nat.{ℕ, suc, ◌≤◌, ◌<◌}
+use Prim.Native.Nat.{ℕ, ◌<◌}
 use native.Mathlib.Omega.{arith}
-use mathlib.Core.Path.{◌≡◌, ap}
-use mathlib.Core.Bool.{Bool, true, false, cond}
-use mathlib.Core.List.{List, [], ◌∷◌}
+use mathlib.Core.Path.{◌≡◌}
+use mathlib.Core.List.{List}
 use lib.ListN.{length, get_or}
 use Rattle.theory.specs.Region.{regions}
 use Rattle.theory.proofs.Enumeration.{region_at_lem}

@@ -1,3 +1,5 @@
+#![tactic(auto)]
+
 // Tables by region number, for n clocks and a ceiling: the faces of each region, its corners, the slots that hold a point. They stand in one slice.
 
 mod chains;

@@ -1,3 +1,5 @@
+#![tactic(auto)]
+
 // The steps of regions as tables by their numbers, filled once for a number of clocks and a ceiling, so that no step of a state is a search.
 // `table` is the list of the regions, packed, as region_table::select gives it; a region's number is its place there.
 ghost use Rattle.std.specs.Prelude.{◌≡◌, cond, [], ℕ, ◌≤◌, ◌<◌, length, get_or};

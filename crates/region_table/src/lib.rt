@@ -1,3 +1,5 @@
+#![tactic(auto)]
+
 // The table of all regions (01, "Regions"): selection for a plan's clocks and ceiling, counts, and the index of a region.
 ghost use Rattle.std.specs.Prelude.{◌≡◌, cond, ◌&&◌, ◌++◌, ◌%◌, ◌≤◌, ◌<◌, eqb, leb, ltb, length, get_or, drop};
 ghost use Rattle.theory.specs.Region.{regions};
@@ -14,7 +16,7 @@ use region::Region;
 use table::entries;
 
 // The index of a region.
-#[derive(Drop)]
+#[derive(Clone, Copy)]
 pub enum Found {
     At(usize),
     Nothing,

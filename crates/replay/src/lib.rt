@@ -1,5 +1,7 @@
 // A trail, read from its bytes and replayed step by step (01, "Evidence").
 // `table` is the list of the model's regions, packed, as region_table::select gives it.
+#![tactic(auto)]
+
 mod walk;
 
 ghost use Rattle.std.specs.Prelude.{◌≡◌};
@@ -25,7 +27,7 @@ const CEILING: u8 = MAX_CEILING as u8;
 const CLOCKS: u8 = MAX_CLOCKS as u8;
 
 // A state that was reached and the offset after what was read, or the refusal: 1, 2 or 13.
-#[derive(Drop)]
+#[derive(Clone, Copy)]
 pub enum Reached {
     At(usize, usize),
     Refused(u8),

@@ -114,7 +114,7 @@ module _ (m : Automaton) (locations : ℕ) (W : Within m locations) (kept : Capp
     turned p q K [] a b s c long w r = absurd (omega arith)
     turned p q K (x ∷ xs) a b s c long w r =
         let (w₁, h) = rw (← c) at w in
-        rw (← h, ← c) (reached_step kept ok D e some {K = K} r (Step.touch a b s (length xs, w₁)))
+        rw (← c, ← h) (reached_step kept ok D e some {K = K} r (Step.touch a b s (length xs, w₁)))
 
     abbrev delay : Move → ℕ
     delay a = move_base m a + move_rate m a * D

@@ -1,6 +1,6 @@
 -- An edge can open alone exactly where some allowed state, reachable or not, has a jump along it; and no run takes another, not even with drift below
 -- half a unit. So closed walks of time and jump steps use edges that can open alone, and nothing less would do as a test clock by clock.
-use mathlib.Core.Path.{◌≡◌, refl}
+use mathlib.Core.Path.{refl}
 use mathlib.Core.List.{List, [], ◌∷◌, Memᴰ}
 use mathlib.Core.Bool.{Bool, true, false}
 use mathlib.Core.Logic.{◌↔◌}
@@ -93,5 +93,6 @@ module _ (N e D : ℕ) (pos : 0 < N) (slight : 2 * e < D) where
 
   -- each edge of a run can open alone
   pub run_opens : {m : Automaton} {gs : List Edge} {l t : ℕ} {v : List ℕ} → Run m N e D gs l v t → (g : Edge) → Memᴰ g gs → OpensAlone m g
+  run_opens (Run.begin b) h i = elim i [ ]
   run_opens (Run.step r d g o) h (Memᴰ.head q) = rw q (taken_opens o)
   run_opens (Run.step r d g o) h (Memᴰ.tail i) = run_opens r h i

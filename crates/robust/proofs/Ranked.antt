@@ -117,10 +117,10 @@ module _ {m : Automaton} {In : ℕ → Region → Type 0} {rank : ℕ → Region
       let fine : Fine b s c r = rw zero-add at g in
       rw same (base r (fine_now b s c r fine) (fine_now b s' 0 r g') (all gs l t v r (omega arith) s lt fine))
   sink K all (suc w) u q (Run.begin h) le few g g' = absurd (omega arith)
-  sink K all (suc w) u q (Run.step r d j o) le few g g' =
+  sink K all (suc w) u q (Run.step {l = l} r d j o) le few g g' =
       let g₁ : Fine b s (suc (w + c)) (Run.step r d j o) = rw suc-add at g in
       mid_moves b kept pos slack s s' (rank_moves kept R u) r d j o (g₁.0, fine_now b s (w + c) r g₁.1) (g'.0, fine_now b s' w r g'.1)
-      (sink K all w (suc u) (omega arith) r (omega arith) (omega arith) g₁.1 g'.1)
+      (sink K all {l = l} w (suc u) (omega arith) r (omega arith) (omega arith) g₁.1 g'.1)
 
   -- and where they are, the point at the shift s' is in.
   surface : {l t : ℕ} {gs : List Edge} {v : List ℕ} (u : ℕ) → u ≡ 0 → (r : Run m N e D gs l v t) → Good In rank u l (halves (mid s s' r))

@@ -61,6 +61,7 @@ onward : {N l : ℕ} {v : List ℕ} (d : ℕ) (g : Edge) → 0 < N → Late N l 
 onward d g pos t o (Memᴰ.head e) = rw e (late₀ (rw e at o.low))
 onward d g pos t o (Memᴰ.tail (Memᴰ.head e)) = rw e (late₁ d t (rw e at o.here))
 onward d g pos t o (Memᴰ.tail (Memᴰ.tail (Memᴰ.head e))) = absurd (late₂ d pos t (rw e at o.here) (rw e at o.high))
+onward d g pos t o (Memᴰ.tail (Memᴰ.tail (Memᴰ.tail i))) = elim i [ ]
 
 late : {N l t : ℕ} {gs : List Edge} {v : List ℕ} → 0 < N → Run stuck_plan N 1 3 gs l v t → Late N l v
 late pos (Run.begin h) = Late.at₀

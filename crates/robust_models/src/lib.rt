@@ -1,1 +1,3 @@
+#![tactic(auto)]
+
 // Theorems only: see proofs/.

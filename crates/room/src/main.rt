@@ -1,27 +1,35 @@
 // What to lend for the plan on standard input, told before anything is lent: its number of states, the length of each scratch slice, the most bytes of a
 // sheet, and the most steps of our trail. Or the refusal.
+#![tactic(auto)]
 
-use libc::STDIN_FILENO;
+ghost use Rattle.printing.specs.Text.{Writes};
+ghost use Rattle.room.specs.Needs.{needs_text};
+
 use op_room::Space;
 use printing::{line, refuse};
+use reading::read_full;
+use std::io;
+use std::io::Write;
 
 // The longest plan takes 762 bytes, so any longer input is refused within these, and no other refusal is lost.
 const INPUT: usize = 4096;
 
-fn show(found: Space) {
+fn show<W: Write>(to: &mut W, found: Space) -> io::Result<()>
+    ensures { Writes (W.contents to.old) (W.contents to.new) result (needs_text found) }
+{
     match found {
         Space::Needs(states, scratch, sheet, steps) => {
-            line(b"states ", states as u64);
-            line(b"scratch ", scratch as u64);
-            line(b"sheet ", sheet as u64);
-            line(b"steps ", steps as u64);
+            line(to, b"states ", states as u64)?;
+            line(to, b"scratch ", scratch as u64)?;
+            line(to, b"sheet ", sheet as u64)?;
+            line(to, b"steps ", steps as u64)
         }
-        Space::Refused(number) => refuse(number),
+        Space::Refused(number) => refuse(to, number),
     }
 }
 
-fn main() {
+fn main(rt: HostRuntime) -> io::Result<()> {
     let mut input = [0u8; INPUT];
-    let n = io::read_full(STDIN_FILENO, &mut input);
-    show(op_room::room(&input[..n]));
+    let n = read_full(&mut rt.reader(), &mut input)?;
+    show(&mut io::writer(&rt), op_room::room(&input[..n]))
 }

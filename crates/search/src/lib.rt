@@ -1,5 +1,6 @@
 // Search by levels over any relation that lent lists hold: states not reached before are taken into a queue, and the least state at a level is found.
 // A level is one more than the distance of a state that is reached, and 0 for the others.
+#![tactic(auto)]
 
 ghost use Rattle.std.specs.Prelude.{◌≡◌, List, ℕ, ◌<◌, length, get_or};
 ghost use Rattle.limits.specs.Limits.{level_flag};

@@ -2,48 +2,62 @@
 // n + 1 places, the steps of node p being those from place p up to place p + 1; and the steps, each by the node that it leads to. A line that begins with
 // '#' is a comment. Every line is written back, a graph with what the searches find behind it: the mark of each node, twice its height and one more
 // on a closed walk; and for each node the fewest steps of a closed walk and the nodes that the least of these comes to, or 0.
+#![tactic(auto)]
+
 mod shape;
 
 ghost use Rattle.std.specs.Prelude.{◌≡◌, ◌+◌, ◌≤◌, ◌<◌, min, length};
 ghost use Rattle.component.specs.Marks.{GraphLists};
 
-use libc::{STDIN_FILENO, STDOUT_FILENO};
 use limits::Word;
 use lines::{after, field, letter, line_end};
+use reading::read_full;
 use shape::shaped;
+use std::io;
+use std::io::Write;
+
+// Bytes of all lines.
+const TEXT: usize = 4096;
 
 const NODES: usize = 8;
 
 const STEPS: usize = 16;
 
-fn say(text: &[u8]) {
-    io::write_all(STDOUT_FILENO, text);
+fn say<W: Write>(to: &mut W, text: &[u8]) -> io::Result<()> {
+    to.write_all(text)
 }
 
-fn show(number: usize) {
-    say(b" ");
-    io::print_decimal(STDOUT_FILENO, number as u64);
+fn show<W: Write>(to: &mut W, number: usize) -> io::Result<()> {
+    say(to, b" ")?;
+    write!(to, "{number}")
 }
 
-fn show_word(number: Word) {
-    show(number as usize);
+fn show_word<W: Write>(to: &mut W, number: Word) -> io::Result<()> {
+    show(to, number as usize)
 }
 
 // The first n numbers.
-fn show_words(numbers: &[Word; NODES], n: usize) {
+fn show_words<W: Write>(to: &mut W, numbers: &[Word; NODES], n: usize) -> io::Result<()> {
     let mut i = 0;
     while i < NODES {
         if n <= i {
-            return;
+            return Ok(());
         }
-        show_word(numbers[i]);
+        show_word(to, numbers[i])?;
         i += 1;
     }
+    Ok(())
 }
 
 // ---- The searches.
 
-fn marks(first: &[u32], targets: &[Word], n: usize, dirt: Word)
+fn marks<W: Write>(
+    to: &mut W,
+    first: &[u32],
+    targets: &[Word],
+    n: usize,
+    dirt: Word,
+) -> io::Result<()>
     requires { GraphLists first.now targets.now n × (n ≤ 8) }
 {
     let mut mark = [dirt; NODES];
@@ -59,10 +73,17 @@ fn marks(first: &[u32], targets: &[Word], n: usize, dirt: Word)
         &mut start[..n],
         n,
     );
-    show_words(&mark, n);
+    show_words(to, &mark, n)
 }
 
-fn walk(first: &[u32], targets: &[Word], n: usize, q: usize, dirt: Word)
+fn walk<W: Write>(
+    to: &mut W,
+    first: &[u32],
+    targets: &[Word],
+    n: usize,
+    q: usize,
+    dirt: Word,
+) -> io::Result<()>
     requires { GraphLists first.now targets.now n × (n ≤ 8) × (q < n) }
 {
     let mut level = [dirt; NODES];
@@ -76,30 +97,43 @@ fn walk(first: &[u32], targets: &[Word], n: usize, q: usize, dirt: Word)
         &mut queue[..n],
         &mut path[..n],
     );
-    show(steps);
-    show_words(&path, steps);
+    show(to, steps)?;
+    show_words(to, &path, steps)
 }
 
 // From each node.
-fn walks(first: &[u32], targets: &[Word], n: usize, dirt: Word)
+fn walks<W: Write>(
+    to: &mut W,
+    first: &[u32],
+    targets: &[Word],
+    n: usize,
+    dirt: Word,
+) -> io::Result<()>
     requires { GraphLists first.now targets.now n × (n ≤ 8) }
 {
     let mut q = 0;
     while q < n {
-        say(b";");
-        walk(first, targets, n, q, dirt);
+        say(to, b";")?;
+        walk(to, first, targets, n, q, dirt)?;
         q += 1;
     }
+    Ok(())
 }
 
-fn search(first: &[u32], targets: &[Word], n: usize, dirt: Word)
+fn search<W: Write>(
+    to: &mut W,
+    first: &[u32],
+    targets: &[Word],
+    n: usize,
+    dirt: Word,
+) -> io::Result<()>
     requires { n ≤ 8 }
 {
     if shaped(first, targets, n) {
-        marks(first, targets, n, dirt);
-        walks(first, targets, n, dirt);
+        marks(to, first, targets, n, dirt)?;
+        walks(to, first, targets, n, dirt)
     } else {
-        say(b" no graph");
+        say(to, b" no graph")
     }
 }
 
@@ -127,40 +161,40 @@ fn read_targets(line: &[u8], k: usize, targets: &mut [Word])
     }
 }
 
-fn graph(line: &[u8]) {
+fn graph<W: Write>(to: &mut W, line: &[u8]) -> io::Result<()> {
     let n = field(line, 1, 0) as usize;
     if NODES < n {
-        say(b" no graph");
-        return;
+        return say(to, b" no graph");
     }
     let mut first = [0u32; NODES + 1];
     let mut targets: [Word; STEPS] = [0; STEPS];
     read_places(line, &mut first);
     read_targets(line, n + 3, &mut targets);
     let end = n + 1;
-    search(&first[..end], &targets, n, field(line, 0, 0));
+    search(to, &first[..end], &targets, n, field(line, 0, 0))
 }
 
-fn case(line: &[u8]) {
-    say(line);
+fn case<W: Write>(to: &mut W, line: &[u8]) -> io::Result<()> {
+    say(to, line)?;
     if letter(line, 0) != b'#' {
-        say(b":");
-        graph(line);
+        say(to, b":")?;
+        graph(to, line)?;
     }
-    say(b"\n");
+    say(to, b"\n")
 }
 
-fn cases(text: &[u8]) {
+fn cases<W: Write>(to: &mut W, text: &[u8]) -> io::Result<()> {
     let mut p = 0;
     while p < text.len() {
         let end = line_end(text, p);
-        case(&text[p..end]);
+        case(to, &text[p..end])?;
         p = after(text, end);
     }
+    Ok(())
 }
 
-fn main() {
-    let mut text = io::buffer();
-    let n = io::read_full(STDIN_FILENO, &mut text);
-    cases(&text[..n]);
+fn main(rt: HostRuntime) -> io::Result<()> {
+    let mut text = [0u8; TEXT];
+    let n = read_full(&mut rt.reader(), &mut text)?;
+    cases(&mut io::writer(&rt), &text[..n])
 }

@@ -1,4 +1,5 @@
 // A sheet from anywhere: its numbers read, its rules tested. Linear in the bytes, the states and their steps.
+#![tactic(auto)]
 
 ghost use Rattle.std.specs.Prelude.{◌≡◌};
 ghost use Rattle.sheet.specs.Answer.{Lent, sheet_answer};

@@ -1,4 +1,5 @@
 // The numbers of a sheet, read one by one into a lent slice.
+#![tactic(auto)]
 
 ghost use Rattle.std.specs.Prelude.{◌≡◌, ◌-◌, ◌*◌, length, eqb};
 ghost use Rattle.sheet_numbers.specs.Numbers.{SheetRoom, number_keeps, numbers_from, flagged, numbers_of, refusal_of};
@@ -9,7 +10,7 @@ use limits::refusal::SHEET_NUMBER;
 use number::Number;
 
 // Where the numbers end, or the refusal of one.
-#[derive(Drop)]
+#[derive(Clone, Copy)]
 pub enum Extent {
     End(usize),
     Refused(u8),

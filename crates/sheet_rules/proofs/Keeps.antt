@@ -1,6 +1,6 @@
 -- The rules of a state, by the ways through their test.
 use mathlib.Core.Path.{◌≡◌, refl, sym, ◌∙◌}
-use mathlib.Core.Bool.{Bool, true, false, not, true≢false, false≢true}
+use mathlib.Core.Bool.{Bool, true, false, true≢false, false≢true}
 use mathlib.Core.Logic.{◌↔◌}
 use mathlib.Core.List.{List}
 use Prim.Native.Nat.{ℕ, suc, ◌+◌, ◌*◌, ◌%◌, ◌≤◌, ◌<◌}
@@ -9,7 +9,7 @@ use native.Mathlib.Decide.{ℕ_discrete}
 use native.Mathlib.Numerals.{add-one}
 use native.Mathlib.Nat.{mul-le-mul_right}
 use lib.ListN.{length, get_or}
-use borrow.Author.Tests.{not-true, not-false, eqb-true, eq-eqb}
+use borrow.Author.Tests.{eqb-true, eq-eqb}
 use Rattle.theory.specs.Adjacency.{Adjacent, Rows}
 use Rattle.theory.specs.Sheet.{in_of, height_of}
 use Rattle.shapes.specs.Layout.{rows_in, faces_in, corners_in}
@@ -24,18 +24,18 @@ told p = (λ _. p, λ _. refl)
 pub denied : {P : Type 0} → (P → ⊥) → (false ≡ true) ↔ P
 denied n = (λ e. absurd (false≢true e), λ p. absurd (n p))
 
-pub refuted : {b : Bool} {P : Type 0} → (b ≡ true) ↔ P → not b ≡ true → P → ⊥
-refuted {b} t e p = true≢false (sym (t.1 p) ∙ not-true b e)
+pub refuted : {b : Bool} {P : Type 0} → (b ≡ true) ↔ P → b ≡ false → P → ⊥
+refuted {b} t e p = true≢false (sym (t.1 p) ∙ e)
 
-pub upheld : {b : Bool} {P : Type 0} → (b ≡ true) ↔ P → not b ≡ false → P
-upheld {b} t e = t.0 (not-false b e)
+pub upheld : {b : Bool} {P : Type 0} → (b ≡ true) ↔ P → b ≡ true → P
+upheld {b} t e = t.0 e
 
 -- a test that is equal to another
-pub shuts : {b d : Bool} → b ≡ d → not b ≡ true → d ≡ true → ⊥
-shuts {b} e n t = true≢false (sym t ∙ sym e ∙ not-true b n)
+pub shuts : {b d : Bool} → b ≡ d → b ≡ false → d ≡ true → ⊥
+shuts {b} e n t = true≢false (sym t ∙ sym e ∙ n)
 
-pub opens : {b d : Bool} → b ≡ d → not b ≡ false → d ≡ true
-opens {b} e n = sym e ∙ not-false b n
+pub opens : {b d : Bool} → b ≡ d → b ≡ true → d ≡ true
+opens {b} e n = sym e ∙ n
 
 pub in_odd : (sheet : List ℕ) (p : ℕ) → in_of sheet p ≡ true → get_or sheet p 0 % 2 ≡ 1
 in_odd sheet p e = eqb-true (get_or sheet p 0 % 2) 1 e

@@ -1,3 +1,5 @@
+#![tactic(auto)]
+
 // The rules of a sheet, tested by the arrays: each state, step, face and corner slot is looked at once. The states of a location are
 // `base`, `base` + 1, .., one for each region; `shapes` has the tables by region, one after the other (crate shapes).
 

@@ -1,4 +1,5 @@
 // Our sheet from what is known of the states of a model: its numbers in a slice, or spelled in shortest form.
+#![tactic(auto)]
 
 ghost use Rattle.std.specs.Prelude.{◌≡◌, ◌∷◌, ◌+◌, ◌*◌, ◌/◌, ◌^◌, ◌≤◌, ◌<◌, ltb, length};
 ghost use Rattle.limits.specs.Limits.{max_states};

@@ -1,63 +1,76 @@
 // How soon the plan on standard input gets to each of its locations with perfect clocks: a line for each, in order, with the least time in units, or
 // `never`. Or the refusal.
+#![tactic(auto)]
 
-use libc::STDIN_FILENO;
+ghost use Rattle.std.specs.Prelude.{◌≡◌, IfOk};
+ghost use Rattle.printing.specs.Text.{Writes};
+ghost use Rattle.soonest.specs.Arrivals.{arrival_text, is_told};
+
 use limits::refusal::UNREACHED;
 use op_soonest::Arrival;
 use printing::{line, put, refuse, say};
+use reading::read_full;
+use std::io;
+use std::io::Write;
 
 // The longest plan takes 762 bytes, so any longer input is refused within these, and no other refusal is lost.
 const INPUT: usize = 4096;
 
 // The line of a location; false if the call is refused.
-fn show(location: u64, found: Arrival) -> bool {
+fn show<W: Write>(to: &mut W, location: u64, found: Arrival) -> io::Result<bool>
+    ensures text { Writes (W.contents to.old) (W.contents to.new) result (arrival_text location found) }
+    ensures told { IfOk result (λ b. b ≡ is_told found) }
+{
     match found {
         Arrival::Time(units) => {
-            put(b"location ", location);
-            line(b" time ", units as u64);
-            true
+            put(to, b"location ", location)?;
+            line(to, b" time ", units as u64)?;
+            Ok(true)
         }
         Arrival::Refused(number) => {
             if number == UNREACHED {
-                put(b"location ", location);
-                say(b" never\n");
-                return true;
+                put(to, b"location ", location)?;
+                say(to, b" never\n")?;
+                return Ok(true);
             }
-            refuse(number);
-            false
+            refuse(to, number)?;
+            Ok(false)
         }
     }
 }
 
 // The same of a location of the plan.
-fn show_time(plan: &[u8], location: u64) -> bool {
+fn show_time<W: Write>(to: &mut W, plan: &[u8], location: u64) -> io::Result<bool> {
     let mut a = [0; 4000];
     let mut b = [0; 4000];
     let mut c = [0; 4000];
     let mut d = [0; 4000];
     show(
+        to,
         location,
         op_soonest::soonest(plan, location, &mut a, &mut b, &mut c, &mut d),
     )
 }
 
-fn show_times(plan: &[u8], locations: u8) {
+fn show_times<W: Write>(to: &mut W, plan: &[u8], locations: u8) -> io::Result<()> {
     let mut location = 0;
     while location < locations as u64 {
-        if !show_time(plan, location) {
-            return;
+        if !show_time(to, plan, location)? {
+            return Ok(());
         }
         location += 1;
     }
+    Ok(())
 }
 
-fn main() {
+fn main(rt: HostRuntime) -> io::Result<()> {
     let mut input = [0u8; INPUT];
-    let n = io::read_full(STDIN_FILENO, &mut input);
+    let n = read_full(&mut rt.reader(), &mut input)?;
+    let mut to = io::writer(&rt);
     let read = plan_reader::read_model(&input[..n]);
     if read.refusal != 0 {
-        refuse(read.refusal);
+        refuse(&mut to, read.refusal)
     } else {
-        show_times(&input[..n], read.model.locations);
+        show_times(&mut to, &input[..n], read.model.locations)
     }
 }

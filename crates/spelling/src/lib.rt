@@ -1,12 +1,13 @@
 // Numbers in shortest form into a lent output, one after the other. Where one doesn't fit nothing is stored and the offset goes on: so a run with no
 // output measures, and the same run with enough of it writes.
+#![tactic(auto)]
 
 ghost use Rattle.std.specs.Prelude.{◌+◌, ◌<◌, ◌≤◌, ◌^◌, length};
 ghost use Rattle.number.specs.Number.{spell};
 ghost use Rattle.spelling.specs.Lays.{Lays, max_bytes};
 
 // How a call ends that writes bytes: how many they are, or the refusal.
-#[derive(Drop)]
+#[derive(Clone, Copy)]
 pub enum Stored {
     Bytes(usize),
     Refused(u8),

@@ -1,4 +1,6 @@
 // What each stay field of a model means, once all its numbers are read.
+#![tactic(auto)]
+
 ghost use Rattle.std.specs.Prelude.{◌≡◌, ◌<◌};
 ghost use Rattle.limits.specs.Limits.{max_clocks, max_locations};
 ghost use Rattle.model.specs.Model.{slot, with_invariant};

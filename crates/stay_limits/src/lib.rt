@@ -1,4 +1,5 @@
 // What a blank stay field stands for, by the mark of its plan.
+#![tactic(auto)]
 
 ghost use Rattle.std.specs.Prelude.{◌≡◌, cond, ◌+◌, ◌<◌, ◌≤◌, max};
 ghost use Rattle.limits.specs.Limits.{max_clocks, max_ceiling, max_edges};

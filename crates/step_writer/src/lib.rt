@@ -1,4 +1,5 @@
 // The parts of a trail in shortest form into a lent output, one after the other: time and jump steps by their labels, walks, regions.
+#![tactic(auto)]
 
 mod label;
 mod put;

@@ -1,5 +1,5 @@
 -- An edge in one number: digits for its limits from below, its limits from above, its reset mask and its target.
-use Rattle.std.specs.Prelude.{ℕ, ◌+◌, ◌*◌, ◌^◌, ◌/◌, ◌%◌, ◌≤◌, ◌<◌, ◌≡◌, cond, List, [], ◌∷◌, length, get_or, ltb}
+use Rattle.std.specs.Prelude.{ℕ, ◌+◌, ◌*◌, ◌/◌, ◌%◌, ◌≤◌, ◌<◌, ◌≡◌, cond, List, [], ◌∷◌, length, get_or, ltb}
 use Rattle.model.specs.declared.Model.{Model}
 use Rattle.model.specs.Model.{target_of}
 use Rattle.limits.specs.Limits.{max_clocks, digit_base, two_digits, three_digits}

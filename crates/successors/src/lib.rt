@@ -1,3 +1,5 @@
+#![tactic(auto)]
+
 // The time and jump steps of all states of a model as adjacency lists. The steps of regions come from tables by region number, so none is searched
 // for. `table` is the list of the model's regions, packed, as region_table::select gives it; state l * len + i is region i of location l.
 

@@ -1,5 +1,6 @@
 // What the operations need to know of the states of a model: closed walks and heights, and the distances from the start, found in the model's tables.
 // Where `touch` is false there are no touch steps: closed walks are not looked for, and all heights are left at zero.
+#![tactic(auto)]
 
 mod marks;
 

@@ -5,7 +5,7 @@ use native.Mathlib.Omega.{arith}
 use mathlib.Core.Path.{◌≡◌, sym, ap, ◌∙◌}
 use mathlib.Core.List.{List}
 use lib.ListN.{length, take, replicate, length-replicate}
-use Rattle.limits.specs.Limits.{max_locations, max_edges, max_faces, slot_count}
+use Rattle.limits.specs.Limits.{max_locations, max_edges}
 use Rattle.shapes.specs.Layout.{shapes_end}
 use Rattle.model.specs.declared.Model.{Model}
 use Rattle.model.specs.Model.{Lawful}

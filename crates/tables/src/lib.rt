@@ -1,3 +1,5 @@
+#![tactic(auto)]
+
 // The tables of a model: by region its faces and corners, by state which are allowed and where time and jumps lead. They are filled here, and nowhere
 // else.
 

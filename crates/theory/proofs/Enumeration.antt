@@ -9,7 +9,7 @@ use mathlib.Core.List.Memᴰ
 use mathlib.Core.List.{List, [], ◌∷◌, ◌++◌, map, Memᴰ}
 use lib.ListN.{length, get_or, replicate}
 use Rattle.theory.specs.Lists.{from, flat, lists}
-use Rattle.theory.specs.Pointwise.{none, more}
+use Rattle.theory.specs.Pointwise.{more}
 use Rattle.theory.specs.Region.{Clock, Region, rounded_up, Fits, top_rank, wholes, lawful, clocks, regions}
 use Rattle.theory.specs.Enumeration.{ranks, key, Before, here, later, Sorted, Ascending}
 use Rattle.theory.proofs.Lists.{map_law}

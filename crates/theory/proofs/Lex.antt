@@ -1,19 +1,36 @@
 -- Laws of `Lex`: keys put together of parts, and lists that are compared element by element.
 use mathlib.Core.Path.{◌≡◌, refl, ap}
 use mathlib.Core.Logic.{◌⊎◌, inl, inr}
-use mathlib.Core.List.{List, [], ◌∷◌, ◌++◌, map}
+use mathlib.Core.List.{List, [], ◌∷◌, ◌++◌, map, cons≢nil}
 use Prim.Native.Nat.{ℕ, ◌≤◌, ◌<◌}
 use native.Mathlib.Omega.{arith}
 use native.Mathlib.Nat.{eq-or-lt_of_le}
 use Rattle.theory.specs.Walk.{Lex, same, first, later}
 
+lex_meet : {l m x y : List ℕ} → Lex l m → Lex x y → l ≡ y → m ≡ x → l ≡ m
+lex_meet same g c d = refl
+lex_meet (first {a = a} {b = b} h) (first {a = x} {b = y} g) c d =
+    let e : a ≡ y = cc in
+    let f : b ≡ x = cc in
+    absurd (omega arith)
+lex_meet (first {a = a} {b = b} h) (later {a = x} g) c d =
+    let e : a ≡ x = cc in
+    let f : b ≡ x = cc in
+    absurd (omega arith)
+lex_meet (later {a = a} h) (first {a = x} {b = y} g) c d =
+    let e : a ≡ y = cc in
+    let f : a ≡ x = cc in
+    absurd (omega arith)
+lex_meet (later {a = a} {l = l} {m = m} h) (later {l = x} {m = y} g) c d =
+    let e : l ≡ y = cc in
+    let f : m ≡ x = cc in
+    ap (λ (m : List ℕ). a ∷ m) (lex_meet h g e f)
+lex_meet (first h) same c d = absurd (cons≢nil c)
+lex_meet (later h) same c d = absurd (cons≢nil c)
+
 -- two keys, each at most the other, are the same: what is least is only one
 pub lex_antisym : {l m : List ℕ} → Lex l m → Lex m l → l ≡ m
-lex_antisym same h = refl
-lex_antisym (first a) (first b) = absurd (omega arith)
-lex_antisym (first a) (later h) = absurd (omega arith)
-lex_antisym (later h) (first b) = absurd (omega arith)
-lex_antisym (later {a = a} h) (later g) = ap (λ (m : List ℕ). a ∷ m) (lex_antisym h g)
+lex_antisym h g = lex_meet h g refl refl
 
 pub lex_head : {a b : ℕ} {l m : List ℕ} → a ≤ b → (a ≡ b → Lex l m) → Lex (a ∷ l) (b ∷ m)
 lex_head {a} {b} {l} {m} h k = by (eq-or-lt_of_le h)

@@ -1,6 +1,6 @@
 -- The bound (K + 1) * e < D is sharp: at (K + 1) * e ≡ D, for every K and e from 1, a run of K jumps enters a location that no exact run enters.
 -- Each wait of e/D in location 0 brings y nearer to 1 by e/D, K waits come to K * e/D, and the low of 1 gives way by the last e/D.
-use mathlib.Core.Path.{◌≡◌, refl, ap}
+use mathlib.Core.Path.{◌≡◌, refl, sym, ap, subst}
 use mathlib.Core.List.Memᴰ
 use mathlib.Core.List.{List, [], ◌∷◌, Memᴰ}
 use mathlib.Core.Logic.{◌⊎◌, inl, inr}
@@ -123,8 +123,8 @@ still {xs = xs} p r (Flow.jump g o a c) = by (drawn_is o.drawn)
     no_leave (Each.more h (Each.more k Each.none)) = omega arith
 
     by : (g ≡ again) ⊎ (g ≡ leave) → (g.target ≡ 0) × (after g xs ≡ origin ladder)
-    by (inl e) = rw (e, r) (refl, refl)
-    by (inr e) = absurd (no_leave (rw (e, r) at o.low))
+    by (inl e) = subst (λ (h : Edge). (h.target ≡ 0) × (after h xs ≡ origin ladder)) (sym e) (rw r (refl, refl))
+    by (inr e) = absurd (no_leave (rw r at (subst (λ (h : Edge). Attains xs h.lower) e o.low)))
 
 pub not_covered : (K e : ℕ) → 1 ≤ K → 1 ≤ e
     → ((m : Automaton) (P : ℕ → Region → Type 0) → FlowClosed m P → ((l : ℕ) (xs : Region) → P l xs → m.forbidden l ≡ false)

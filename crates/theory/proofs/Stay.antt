@@ -1,6 +1,6 @@
 -- Exact runs on whole times stay in every set of states that has the start and is closed under time and jump: a whole point is a region with all
 -- ranks 0, and a unit of waiting is two time steps. With rounding, such a set without a forbidden location covers every slight drift.
-use mathlib.Core.Path.{◌≡◌, refl, ap, ap₂}
+use mathlib.Core.Path.{◌≡◌, refl, ap, ap₂, ◌∙◌}
 use mathlib.Core.List.{List, [], ◌∷◌}
 use mathlib.Core.Bool.{Bool, true, false}
 use Prim.Native.Nat.{ℕ, zero, suc, ◌+◌, ◌*◌, ◌≤◌}
@@ -45,7 +45,7 @@ pub successor-between : (v : List ℕ) → successor (between v) ≡ point (elap
 successor-between [] = refl
 successor-between (x ∷ v) =
     let one : top_rank (between (x ∷ v)) ≡ 1 = omega (arith, top_between v) in
-    rw (no_rank_0 v, one) (carry-between (x ∷ v))
+    rw (no_rank_0 v) (ap (λ t. carry t (between (x ∷ v))) one ∙ carry-between (x ∷ v))
 
 -- ---- a jump from a whole point ends in one
 

@@ -1,4 +1,5 @@
 // How soon drift does harm, by our trail: within base + rate · q jumps, where the drift is a q-th of a unit or more.
+#![tactic(auto)]
 
 ghost use Rattle.std.specs.Prelude.{◌≡◌, true, ℕ, ◌*◌, ◌<◌, ◌≤◌, length, get_or};
 ghost use Rattle.theory.specs.System.{on_closed_walk};
@@ -19,7 +20,7 @@ use limits::cast::from_word;
 use model::Model;
 
 // Jumps that do not depend on the drift, and how often q is added to them.
-#[derive(Drop)]
+#[derive(Clone, Copy)]
 pub struct Delay {
     pub base: u64,
     pub rate: u64,

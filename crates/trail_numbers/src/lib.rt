@@ -1,4 +1,6 @@
 // The numbers of a trail's steps, each judged by 1, 2 and 15 as it is read.
+#![tactic(auto)]
+
 ghost use Rattle.std.specs.Prelude.{◌≡◌};
 ghost use Rattle.region.specs.Limits.{Clocks};
 ghost use Rattle.trail_numbers.specs.Numbers.{label_at, numbers_at};
@@ -10,7 +12,7 @@ use number::Number;
 use region::Region;
 
 // A step of a trail, all but a touch's walk. 01: "0 time; 1 jump, edge number; 2 face, w1..wn, r1..rn; 3 touch, the region likewise".
-#[derive(Drop)]
+#[derive(Clone, Copy)]
 pub enum Step {
     Time,
     Jump(u32),
@@ -19,14 +21,14 @@ pub enum Step {
 }
 
 // Up to three numbers and the offset after them, or the refusal.
-#[derive(Drop)]
+#[derive(Clone, Copy)]
 enum Three {
     Numbers(u32, u32, u32, usize),
     Refused(u8),
 }
 
 // A step and the offset after it, or the refusal.
-#[derive(Drop)]
+#[derive(Clone, Copy)]
 pub enum Reading {
     Read(Step, usize),
     Refused(u8),

@@ -1,4 +1,5 @@
 // The states of our trail: the fewest steps from the start into a forbidden location, and of those the least in state numbers.
+#![tactic(auto)]
 
 ghost use Rattle.std.specs.Prelude.{◌≡◌, Bool, ℕ, ◌*◌, ◌≤◌, ◌<◌, length, take};
 ghost use Rattle.theory.specs.Walk.{greedy};

@@ -20,7 +20,7 @@ use Rattle.theory.specs.System.{System, Laws, OnClosedWalkIn, on_closed_walk}
 use Rattle.theory.specs.Marked.{step, unsafe}
 use Rattle.theory.specs.Trail.{Trail, trail_states}
 use Rattle.theory.specs.ClosedWalk.{closed_walk, closed_walk_steps}
-use Rattle.theory.specs.Labels.{LabelledSystem, leads, least_label, labels_along, closed_walk_labels}
+use Rattle.theory.specs.Labels.{LabelledSystem, least_label, labels_along, closed_walk_labels}
 use Rattle.theory.specs.Replay.{Move, flow_by, face_to, touch_to, our_move, moves_along, our_moves}
 use Rattle.theory.specs.WithoutTouch.{with_touch, labelled_with_touch}
 use Rattle.theory.proofs.Below.{cond_ind, least-le, and_right, false_unless_true}

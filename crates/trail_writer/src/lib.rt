@@ -1,4 +1,5 @@
 // A trail spelled into a lent output, or measured with none, from the states that it comes to.
+#![tactic(auto)]
 
 ghost use Rattle.std.specs.Prelude.{◌≡◌, true, ◌+◌, ◌<◌, ◌≤◌, length};
 ghost use Rattle.theory.specs.System.{on_closed_walk};

@@ -1,0 +1,9 @@
+use Rattle.std.proofs.Common.{◌≤◌, ◌-◌}
+use Rattle.limits.specs.Limits.{max_states}
+use Rattle.cases.proofs.lent.show_bytes.Given as goal
+
+abbrev pub invariant-loop-i : goal.invariant-loop-i
+invariant-loop-i g l = l.i ≤ max_states
+
+abbrev pub decreases-loop-i : goal.decreases-loop-i
+decreases-loop-i g l = max_states - l.i

@@ -1,0 +1,24 @@
+-- `has_face` meets its contract.
+use mathlib.Core.Path.{◌∙◌}
+use Rattle.graph.proofs.States.{small_of, face_of_lem, beside_in, beside_out}
+use Rattle.theory.specs.Region.{face}
+use Rattle.graph.proofs.has_face.Goals as goal
+
+pub has_face-requires : goal.has_face-requires
+has_face-requires c = (
+  small_of c.args.m c.requires.0 c.region_of.result c.region_of.ensures.0,
+  small_of c.args.m c.requires.0 c.region_of-then-together.result c.region_of-then-together.ensures.0,
+)
+
+pub returns-then-together : goal.returns-then-together
+returns-then-together c =
+    c.has_face.ensures
+    ∙ face_of_lem c.args.m c.requires.0 c.args.p c.args.q c.region_of.result c.region_of-then-together.result
+    c.region_of.ensures c.region_of-then-together.ensures
+    ∙ beside_in c.args.m c.requires.0 c.args.p c.args.q c.together.result
+    c.together.ensures face c.if-together.true
+
+pub returns : goal.returns
+returns c =
+    beside_out c.args.m c.requires.0 c.args.p c.args.q c.together.result
+    c.together.ensures face c.if-together.false

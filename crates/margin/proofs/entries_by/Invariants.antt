@@ -1,0 +1,13 @@
+-- `margin::entries_by` meets its contract. The invariant: the entries by the start and the edges from e on are counted, and each edge has
+-- at most max_values.
+use Prim.Native.Nat.{◌+◌, ◌*◌, ◌≤◌}
+use mathlib.Core.Path.{◌≡◌}
+use Rattle.robust.specs.Margin.{max_values}
+use Rattle.margin.proofs.Entries.{entries_from}
+use Rattle.margin.proofs.entries_by.Given as goal
+
+abbrev pub invariant-loop-e : goal.invariant-loop-e
+invariant-loop-e l = (l.e ≤ l.m.edges) × (l.count ≡ entries_from l.m l.l l.e) × (l.count + max_values * l.e ≤ max_values * l.m.edges + 1)
+
+abbrev pub decreases-loop-e : goal.decreases-loop-e
+decreases-loop-e l = l.e

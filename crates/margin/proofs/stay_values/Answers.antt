@@ -1,0 +1,13 @@
+-- `margin::stay_values` meets its contract.
+use Rattle.margin.proofs.Limits.{stay_values_are}
+use Rattle.margin.proofs.stay_values.Goals as goal
+
+pub returns : goal.returns
+returns c =
+    let x = c.stay_limit in
+    let y = c.stay_limit-2 in
+    let z = c.stay_limit-3 in (
+      stay_values_are c.args.m c.requires.0 c.args.l x.result y.result z.result c.half_values.result
+          x.ensures.0 y.ensures.0 z.ensures.0 c.half_values.ensures.0,
+      c.half_values.ensures.1,
+    )

@@ -1,0 +1,116 @@
+-- `marking::reach::take_point` meets its contract. The invariant: what is left stands on the chain from `next`, whose slots fall.
+use Prim.Native.Nat.{suc, ◌*◌, ◌-◌, ◌<◌}
+use mathlib.Core.Path.{◌≡◌, refl, sym, ◌∙◌}
+use mathlib.Core.Logic.{inr}
+use native.Mathlib.Omega.{arith}
+use lib.ListN.{length, get_or}
+use Rattle.limits.specs.Limits.{slot_count}
+use Rattle.shapes.specs.Layout.{links_in, heads_in}
+use Rattle.search.proofs.Queue.{partly_turn, partly_end, takes_none, takes_queue}
+use Rattle.shapes.proofs.Parts.{link_at, head_at, corners_long, heads_long}
+use Rattle.marking.proofs.Corners.{point_first, point_all, point_end, point_below, point_falls, point_turn, point_part, point_next, slot_state}
+use Rattle.marking.proofs.reach.take_point.Goals as goal
+
+pub links_at-links-requires : goal.links_at-links-requires
+links_at-links-requires c = c.requires.3.faces.regions
+
+pub heads_at-heads-requires : goal.heads_at-heads-requires
+heads_at-heads-requires c = c.requires.3.faces.regions
+
+pub overflow_add-heads : goal.overflow_add-heads
+overflow_add-heads c = omega (arith, c.heads_at-heads.ensures, c.requires.3.faces.regions)
+
+pub offset_bounds-shapes-heads : goal.offset_bounds-shapes-heads
+offset_bounds-shapes-heads c = omega (arith, c.heads_at-heads.ensures, c.requires.3.faces.long)
+
+pub bounds-shapes-heads : goal.bounds-shapes-heads
+bounds-shapes-heads c = omega (arith, c.heads_at-heads.ensures, c.requires.3.faces.long)
+
+pub loop-next-init : goal.loop-next-init
+loop-next-init c =
+    let a = c.args in
+    let p = c.requires in
+    let T = p.3 in
+    let b : a.v < length (heads_in a.regions a.shapes.now) = omega (arith, heads_long a.regions a.shapes.now T.faces.long) in
+    let e : c.from_word-next.result ≡ get_or (heads_in a.regions a.shapes.now) a.v 0 = c.from_word-next.ensures ∙ rw c.heads_at-heads.ensures (head_at a.regions a.shapes.now T.faces.long a.v p.2) in
+    rw e (point_first (T.chains refl) a.v b, record { takes = takes_none p.4; left = λ q t. inr (point_all (T.chains refl) a.v b q t) })
+
+pub overflow_mul-q : goal.overflow_mul-q
+overflow_mul-q c =
+    let l = c.loop-next in
+    let p = c.requires in
+    let a = c.args in
+    let e : l.next ≡ suc (l.next - 1) = omega arith in
+    omega (arith, p.3.states, slot_state p.3 a.location p.1 (l.next - 1) (omega (arith, point_below l.invariant.0 (l.next - 1) e, corners_long a.regions a.shapes.now p.3.faces.long)))
+
+pub overflow_add-q : goal.overflow_add-q
+overflow_add-q c =
+    let l = c.loop-next in
+    let p = c.requires in
+    let a = c.args in
+    let e : l.next ≡ suc (l.next - 1) = omega arith in
+    omega (arith, p.3.states, slot_state p.3 a.location p.1 (l.next - 1) (omega (arith, point_below l.invariant.0 (l.next - 1) e, corners_long a.regions a.shapes.now p.3.faces.long)))
+
+pub take_closed-end-requires : goal.take_closed-end-requires
+take_closed-end-requires c =
+    let l = c.loop-next in
+    let p = c.requires in
+    let a = c.args in
+    let k = l.invariant.1.takes in
+    let e : l.next ≡ suc (l.next - 1) = omega arith in
+    (p.0, omega (arith, k.long, slot_state p.3 a.location p.1 (l.next - 1) (omega (arith, point_below l.invariant.0 (l.next - 1) e, corners_long a.regions a.shapes.now p.3.faces.long))), p.3.heights_long ∙ sym k.long, k.fits)
+
+pub overflow_add-links : goal.overflow_add-links
+overflow_add-links c =
+    let l = c.loop-next in
+    let p = c.requires in
+    let a = c.args in
+    let e : l.next ≡ suc (l.next - 1) = omega arith in
+    omega (arith, p.3.faces.regions, p.3.faces.long, c.links_at-links.ensures, point_below l.invariant.0 (l.next - 1) e, corners_long a.regions a.shapes.now p.3.faces.long)
+
+pub offset_bounds-shapes-links : goal.offset_bounds-shapes-links
+offset_bounds-shapes-links c =
+    let l = c.loop-next in
+    let p = c.requires in
+    let a = c.args in
+    let e : l.next ≡ suc (l.next - 1) = omega arith in
+    omega (arith, p.3.faces.regions, p.3.faces.long, c.links_at-links.ensures, point_below l.invariant.0 (l.next - 1) e, corners_long a.regions a.shapes.now p.3.faces.long)
+
+pub bounds-shapes-links : goal.bounds-shapes-links
+bounds-shapes-links c =
+    let l = c.loop-next in
+    let p = c.requires in
+    let a = c.args in
+    let e : l.next ≡ suc (l.next - 1) = omega arith in
+    omega (arith, p.3.faces.regions, p.3.faces.long, c.links_at-links.ensures, point_below l.invariant.0 (l.next - 1) e, corners_long a.regions a.shapes.now p.3.faces.long)
+
+pub loop-next-smaller : goal.loop-next-smaller
+loop-next-smaller c =
+    let l = c.loop-next in
+    let p = c.requires in
+    let a = c.args in
+    let e : l.next ≡ suc (l.next - 1) = omega arith in
+    let b : l.next - 1 < slot_count * a.regions = omega (arith, point_below l.invariant.0 (l.next - 1) e, corners_long a.regions a.shapes.now p.3.faces.long) in
+    let w : c.from_word-next-in-loop-next.result ≡ get_or (links_in a.regions a.shapes.now) (l.next - 1) 0 = c.from_word-next-in-loop-next.ensures ∙ rw c.links_at-links.ensures (link_at a.regions a.shapes.now p.3.faces.long (l.next - 1) b) in
+    omega (arith, point_falls l.invariant.0 (l.next - 1) e)
+
+pub loop-next-preserved : goal.loop-next-preserved
+loop-next-preserved c =
+    let l = c.loop-next in
+    let p = c.requires in
+    let a = c.args in
+    let e : l.next ≡ suc (l.next - 1) = omega arith in
+    let b : l.next - 1 < slot_count * a.regions = omega (arith, point_below l.invariant.0 (l.next - 1) e, corners_long a.regions a.shapes.now p.3.faces.long) in
+    let w : c.from_word-next-in-loop-next.result ≡ get_or (links_in a.regions a.shapes.now) (l.next - 1) 0 = c.from_word-next-in-loop-next.ensures ∙ rw c.links_at-links.ensures (link_at a.regions a.shapes.now p.3.faces.long (l.next - 1) b) in
+    rw w (point_turn l.invariant.0 (l.next - 1) e, partly_turn l.invariant.1 c.take_closed-end.ensures (point_part l.invariant.0 (l.next - 1) e) (point_next l.invariant.0 (l.next - 1) e))
+
+pub shape_of-distance : goal.shape_of-distance
+shape_of-distance c = c.loop-next.invariant.1.takes.long
+
+pub shape_of-queue : goal.shape_of-queue
+shape_of-queue c = takes_queue c.loop-next.invariant.1.takes c.requires.4
+
+pub returns : goal.returns
+returns c =
+    let i = c.loop-next.invariant in
+    partly_end i.1 (point_end i.0 (omega arith))

@@ -1,0 +1,2 @@
+-- What several prints write.
+pub mod Writes

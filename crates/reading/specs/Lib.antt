@@ -1,0 +1,2 @@
+-- What a read that fails leaves.
+pub mod Front
