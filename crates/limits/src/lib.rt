@@ -1,5 +1,6 @@
 // Every limit of a plan, and the numbers that follow from them: the one place where they stand. A contract cannot name a constant of code, so each
 // number stands here twice, as a constant and under specs/Limits; module `agree` shows that the two are one.
+#![tactic(auto)]
 
 mod agree;
 pub mod cast;

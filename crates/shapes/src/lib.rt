@@ -1,5 +1,6 @@
 // Where the tables by region stand in one lent slice, for R regions: where the faces of each region begin (R + 1 places), the faces, a slot for each
 // corner, for each slot the link of the chain through the slots that hold its point, and for each point the head of that chain.
+#![tactic(auto)]
 
 ghost use Rattle.std.specs.Prelude.{◌≡◌, ◌≤◌};
 ghost use Rattle.limits.specs.Limits.{max_regions};

@@ -1,5 +1,4 @@
 -- From where the corners begin to where the links do.
-use borrow.Author.Rules.{rules}
 use Rattle.shapes.proofs.corners_of.Goals as goal
 
 pub returns : goal.returns

@@ -1,5 +1,4 @@
 -- From where the faces begin to where the corners do.
-use borrow.Author.Rules.{rules}
 use Rattle.shapes.proofs.faces_of.Goals as goal
 
 pub returns : goal.returns

@@ -1,10 +1,7 @@
 -- The places passed are zero.
-use Prim.Native.Nat.{◌-◌}
 use mathlib.Core.Path.{refl}
-use lib.ListN.{length}
-use borrow.Author.Rules.{rules}
 use native.Mathlib.Omega.{arith}
-use Rattle.limits.proofs.Zeros.{Filled, filled_next, filled_all}
+use Rattle.limits.proofs.Zeros.{filled_next, filled_all}
 use Rattle.limits.proofs.zero.clear.Goals as goal
 
 pub loop-i-init : goal.loop-i-init
