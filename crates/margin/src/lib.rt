@@ -3,7 +3,7 @@
 
 ghost use Rattle.std.specs.Prelude.{◌≡◌, cond, [], ◌∷◌, ◌+◌, ◌*◌, ◌≤◌, ◌<◌, min, ltb, eqb, take};
 ghost use Rattle.theory.specs.Below.{bit};
-ghost use Rattle.robust.specs.Margin.{half_values, entry_limits, entries_by, entries_of, margin as marginOf, max_factor, max_values};
+ghost use Rattle.robust.specs.Margin.{half_values, entry_limits, entries_by, entries_of, margin as margin_of, max_factor, max_values};
 ghost use Rattle.region.specs.Limits.{Clocks};
 ghost use Rattle.limits.specs.Limits.{max_clocks, max_ceiling, max_edges};
 ghost use Rattle.model.specs.Model.{Lawful, target_of};
@@ -127,7 +127,7 @@ fn entries_of(m: Model, l: usize) -> u32
 // Every drift e/D below 1/A is harmless for ever if the plan is safe: the number A of a model.
 pub fn margin(m: Model) -> u32
     requires { Lawful m }
-    ensures { result ≡ marginOf (automaton_of m) m.locations }
+    ensures { result ≡ margin_of (automaton_of m) m.locations }
 {
     let locations = m.locations as usize;
     let mut count = 0;

@@ -20,8 +20,8 @@ cut a b first second p =
     let (front, rest, split, appended) = p in
     (front, rest ++ second, ap (λ l. l ++ second) split ∙ append_assoc front rest second, appended)
 
-pub first_of : (a b : Option (List ℕ)) (n : ℕ) (bs : List ℕ) → Appends a b (take n bs) → AppendsFront a b bs
-first_of a b n bs p = (take n bs, drop n bs, sym (take-append-drop n bs), p)
+pub front_of : (a b : Option (List ℕ)) (n : ℕ) (bs : List ℕ) → Appends a b (take n bs) → AppendsFront a b bs
+front_of a b n bs p = (take n bs, drop n bs, sym (take-append-drop n bs), p)
 
 pub failed : {T E : Type 0} (a b : Option (List ℕ)) (bs : List ℕ) (r : Result T E) → IsErr r → AppendsFront a b bs → Writes a b r bs
 failed a b bs (Ok x) wrong p = absurd (search rules)

@@ -5,7 +5,7 @@ use lib.Seq.{take-add}
 use Rattle.std.specs.declared.option.Option.{Option}
 use Rattle.std.specs.Io.KnownBytes.{Appends}
 use Rattle.std.proofs.KnownBytes.{Appends-trans, Appends-kept}
-use Rattle.printing.proofs.Writes.{first_of, failed}
+use Rattle.printing.proofs.Writes.{front_of, failed}
 use Rattle.printing.proofs.say.Goals as goal
 
 more : (a b c : Option (List ℕ)) (from n : ℕ) (text : List ℕ) → Appends a b (take from text) → Appends b c (take n (take (length text - from) (drop from text)))
@@ -22,11 +22,11 @@ loop-done-preserved g c = record {
 pub returns-in_err-n : goal.returns-in_err-n
 returns-in_err-n g c =
     let kept = Appends-kept _ _ _ _ c.loop-done.invariant.bytes c.in_err-n.ensures.bytes in
-    failed _ _ _ _ c.from_residual.ensures.0 (first_of _ _ c.loop-done.done c.args.text.now kept)
+    failed _ _ _ _ c.from_residual.ensures.0 (front_of _ _ c.loop-done.done c.args.text.now kept)
 
 pub returns-then-n-eq0 : goal.returns-then-n-eq0
 returns-then-n-eq0 g c =
     let from = c.loop-done.done in
     let n = c.in_ok-n.n in
     let text = c.args.text.now in
-    first_of _ _ (from + n) text (more _ _ _ from n text c.loop-done.invariant.bytes c.in_ok-n.ensures.bytes)
+    front_of _ _ (from + n) text (more _ _ _ from n text c.loop-done.invariant.bytes c.in_ok-n.ensures.bytes)
