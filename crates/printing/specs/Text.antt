@@ -15,6 +15,11 @@ line_text word n = word ++ decimal n ++ 10 ∷ []
 abbrev pub refusal_text : ℕ → List ℕ
 refusal_text r = line_text (codes "refused ") r
 
+-- known bytes only grow
+pub record Grows (old new : Option (List ℕ)) : Type 0 where
+  pub more : List ℕ
+  pub appended : Appends old new more
+
 -- known bytes grow by a front of bs
 abbrev pub AppendsFront : Option (List ℕ) → Option (List ℕ) → List ℕ → Type 0
 AppendsFront old new bs = (front : List ℕ) × (rest : List ℕ) × (bs ≡ front ++ rest) × Appends old new front

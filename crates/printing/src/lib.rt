@@ -3,6 +3,7 @@
 #![tactic(auto)]
 
 ghost use Rattle.std.specs.Prelude.{[], length, take, nat_le, if◌then◌else◌};
+ghost use Rattle.std.specs.Fmt.{decimal};
 ghost use Rattle.std.specs.Io.{WritesAtMost};
 ghost use Rattle.std.specs.Io.KnownBytes.{WriteAppends};
 ghost use Rattle.printing.specs.Text.{word_text, line_text, refusal_text, Writes};
@@ -43,6 +44,13 @@ pub fn say<W: Write>(to: &mut W, text: &[u8]) -> io::Result<()>
     Ok(())
 }
 
+// A number in decimal.
+pub fn digits<W: Write>(to: &mut W, number: u64) -> io::Result<()>
+    ensures { Writes (W.contents to.old) (W.contents to.new) result (decimal number) }
+{
+    say(to, Buffer::new().format(number).as_bytes())
+}
+
 // A word and a number.
 #[tactic(auto, using(crate::proofs::Writes::writes_then, crate::proofs::Writes::cut))]
 pub fn put<W: Write>(to: &mut W, word: &[u8], number: u64) -> io::Result<()>
@@ -50,7 +58,7 @@ pub fn put<W: Write>(to: &mut W, word: &[u8], number: u64) -> io::Result<()>
         (word_text word.now number) }
 {
     say(to, word)?;
-    say(to, Buffer::new().format(number).as_bytes())
+    digits(to, number)
 }
 
 // A line of both.
