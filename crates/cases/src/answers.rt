@@ -1,7 +1,10 @@
 // Answers as 01 has them: the number, and behind 0 the values; a verdict is 0 safe, 1 unsafe.
+ghost use Rattle.printing.specs.Text.{Grows};
+
 use drift::{
     Arrival, Bound, Evidence, Judgement, Marking, Onset, Space, Stored, Tolerance, Written,
 };
+use printing::{digits, say};
 use std::io;
 use std::io::Write;
 
@@ -91,26 +94,30 @@ pub fn of_arrival(found: Arrival) -> Answer {
     }
 }
 
-pub fn say<W: Write>(to: &mut W, text: &[u8]) -> io::Result<()> {
-    to.write_all(text)
-}
-
-pub fn put<W: Write>(to: &mut W, number: usize) -> io::Result<()> {
-    write!(to, "{number}")
+pub fn put<W: Write>(to: &mut W, number: usize) -> io::Result<()>
+    ensures grows { Grows (W.contents to.old) (W.contents to.new) }
+{
+    digits(to, number as u64)
 }
 
 // A value behind others.
-pub fn show<W: Write>(to: &mut W, number: usize) -> io::Result<()> {
+pub fn show<W: Write>(to: &mut W, number: usize) -> io::Result<()>
+    ensures grows { Grows (W.contents to.old) (W.contents to.new) }
+{
     say(to, b" ")?;
     put(to, number)
 }
 
-fn show_long<W: Write>(to: &mut W, number: u64) -> io::Result<()> {
+fn show_long<W: Write>(to: &mut W, number: u64) -> io::Result<()>
+    ensures grows { Grows (W.contents to.old) (W.contents to.new) }
+{
     say(to, b" ")?;
-    write!(to, "{number}")
+    digits(to, number)
 }
 
-pub fn show_answer<W: Write>(to: &mut W, answer: Answer) -> io::Result<()> {
+pub fn show_answer<W: Write>(to: &mut W, answer: Answer) -> io::Result<()>
+    ensures grows { Grows (W.contents to.old) (W.contents to.new) }
+{
     match answer {
         Answer::Refused(number) => put(to, number as usize),
         Answer::One(a) => {

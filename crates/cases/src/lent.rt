@@ -1,11 +1,13 @@
 // What is lent to an operation, which holds 7 everywhere at first: its lengths, by the fields of a line, and what is in it afterwards.
 ghost use Rattle.std.specs.Prelude.{◌≤◌};
 ghost use Rattle.limits.specs.Limits.{max_states};
+ghost use Rattle.printing.specs.Text.{Grows};
 
-use super::answers::{put, say, show};
+use super::answers::{put, show};
 use super::operation::Operation;
 use limits::{MAX_STATES, Word};
 use lines::field;
+use printing::say;
 use std::io;
 use std::io::Write;
 
@@ -78,7 +80,9 @@ pub fn show_zeros<W: Write>(
     s2: &Scratch,
     s3: &Scratch,
     s4: &Scratch,
-) -> io::Result<()> {
+) -> io::Result<()>
+    ensures grows { Grows (W.contents to.old) (W.contents to.new) }
+{
     say(to, b", zero")?;
     show(to, zeros(s1))?;
     show(to, zeros(s2))?;
@@ -87,7 +91,9 @@ pub fn show_zeros<W: Write>(
 }
 
 // A byte of the output: the first behind a space, the others behind nothing or a comma.
-fn show_byte<W: Write>(to: &mut W, i: usize, byte: u8, commas: bool) -> io::Result<()> {
+fn show_byte<W: Write>(to: &mut W, i: usize, byte: u8, commas: bool) -> io::Result<()>
+    ensures grows { Grows (W.contents to.old) (W.contents to.new) }
+{
     if i == 0 {
         say(to, b" ")?;
     } else if commas {
@@ -97,7 +103,9 @@ fn show_byte<W: Write>(to: &mut W, i: usize, byte: u8, commas: bool) -> io::Resu
 }
 
 // The first n bytes.
-fn show_bytes<W: Write>(to: &mut W, out: &Output, n: usize, commas: bool) -> io::Result<()> {
+fn show_bytes<W: Write>(to: &mut W, out: &Output, n: usize, commas: bool) -> io::Result<()>
+    ensures grows { Grows (W.contents to.old) (W.contents to.new) }
+{
     say(to, b", out")?;
     let mut i = 0;
     while i < MAX_STATES {
@@ -116,7 +124,9 @@ pub fn show_output<W: Write>(
     operation: Operation,
     out: &Output,
     n: usize,
-) -> io::Result<()> {
+) -> io::Result<()>
+    ensures grows { Grows (W.contents to.old) (W.contents to.new) }
+{
     match operation {
         Operation::Marks | Operation::MarksJoint => show_bytes(to, out, n, false),
         Operation::Write | Operation::WriteJoint | Operation::Plan => show_bytes(to, out, n, true),

@@ -12,16 +12,18 @@ mod lent;
 mod operation;
 
 ghost use Rattle.std.specs.Prelude.{◌≡◌, ◌+◌, ◌≤◌, ◌<◌, min, length, IfOk};
+ghost use Rattle.printing.specs.Text.{Grows};
 
 use answers::{
     Answer, of_arrival, of_bound, of_evidence, of_judgement, of_marking, of_onset, of_space,
-    of_stored, of_tolerance, of_written, say, show_answer,
+    of_stored, of_tolerance, of_written, show_answer,
 };
 use counting::rounds;
 use lent::{Output, Scratch, length, lengths_of, show_output, show_zeros};
 use limits::{MAX_STATES, Word};
 use lines::{after, letter, line_end, long_field, numbers};
 use operation::{Operation, operation_of};
+use printing::say;
 use reading::read_full;
 use std::io;
 use std::io::Write;
@@ -33,7 +35,9 @@ const BYTES: usize = 1024;
 const TEXT: usize = 131072;
 
 // Evidence, with scratch as document 01's programs lend it.
-fn check<W: Write>(to: &mut W, plan: &[u8], line: &[u8]) -> io::Result<()> {
+fn check<W: Write>(to: &mut W, plan: &[u8], line: &[u8]) -> io::Result<()>
+    ensures grows { Grows (W.contents to.old) (W.contents to.new) }
+{
     let mut bytes = [0u8; BYTES];
     let n = numbers(line, &mut bytes);
     let mut a: [Word; 4000] = [7; 4000];
@@ -71,7 +75,9 @@ fn call(
 }
 
 // The plan in shortest form, without scratch.
-fn shorten<W: Write>(to: &mut W, plan: &[u8], line: &[u8]) -> io::Result<()> {
+fn shorten<W: Write>(to: &mut W, plan: &[u8], line: &[u8]) -> io::Result<()>
+    ensures grows { Grows (W.contents to.old) (W.contents to.new) }
+{
     let mut out: Output = [7; MAX_STATES];
     let n = length(line, 1);
     show_answer(to, of_stored(drift::write_plan(plan, &mut out[..n])))?;
@@ -87,6 +93,7 @@ fn run<W: Write>(
     k: usize,
 ) -> io::Result<()>
     requires { k ≤ 2 }
+    ensures grows { Grows (W.contents to.old) (W.contents to.new) }
 {
     let mut s1: Scratch = [7; MAX_STATES];
     let mut s2: Scratch = [7; MAX_STATES];
@@ -117,7 +124,9 @@ fn run<W: Write>(
     show_output(to, operation, &out, n)
 }
 
-fn answer<W: Write>(to: &mut W, plan: &[u8], line: &[u8]) -> io::Result<()> {
+fn answer<W: Write>(to: &mut W, plan: &[u8], line: &[u8]) -> io::Result<()>
+    ensures grows { Grows (W.contents to.old) (W.contents to.new) }
+{
     let operation = operation_of(line);
     match operation {
         Operation::Margin => show_answer(to, of_tolerance(drift::margin(plan))),
@@ -134,7 +143,9 @@ fn answer<W: Write>(to: &mut W, plan: &[u8], line: &[u8]) -> io::Result<()> {
     }
 }
 
-fn show<W: Write>(to: &mut W, plan: &[u8], line: &[u8]) -> io::Result<()> {
+fn show<W: Write>(to: &mut W, plan: &[u8], line: &[u8]) -> io::Result<()>
+    ensures grows { Grows (W.contents to.old) (W.contents to.new) }
+{
     say(to, line)?;
     if letter(line, 0) != b'#' {
         say(to, b": ")?;
@@ -146,7 +157,8 @@ fn show<W: Write>(to: &mut W, plan: &[u8], line: &[u8]) -> io::Result<()> {
 // The lines of a plan, from an offset up to the next plan.
 fn cases<W: Write>(to: &mut W, plan: &[u8], text: &[u8], at: usize) -> io::Result<usize>
     requires { at ≤ length text.now }
-    ensures { IfOk result (λ r. (at ≤ r) × (r ≤ length text.now)) }
+    ensures next { IfOk result (λ r. (at ≤ r) × (r ≤ length text.now)) }
+    ensures grows { Grows (W.contents to.old) (W.contents to.new) }
 {
     let mut p = at;
     while p < text.len() {
@@ -163,7 +175,8 @@ fn cases<W: Write>(to: &mut W, plan: &[u8], text: &[u8], at: usize) -> io::Resul
 // A plan that stands at an offset, and its lines.
 fn planned<W: Write>(to: &mut W, text: &[u8], at: usize) -> io::Result<usize>
     requires { at ≤ length text.now }
-    ensures { IfOk result (λ r. (at ≤ r) × (r ≤ length text.now)) }
+    ensures next { IfOk result (λ r. (at ≤ r) × (r ≤ length text.now)) }
+    ensures grows { Grows (W.contents to.old) (W.contents to.new) }
 {
     let end = line_end(text, at);
     let mut bytes = [0u8; BYTES];
@@ -174,7 +187,8 @@ fn planned<W: Write>(to: &mut W, text: &[u8], at: usize) -> io::Result<usize>
 // A plan that is announced at an offset.
 fn plan<W: Write>(to: &mut W, text: &[u8], at: usize) -> io::Result<usize>
     requires { at < length text.now }
-    ensures { IfOk result (λ r. (at < r) × (r ≤ length text.now)) }
+    ensures next { IfOk result (λ r. (at < r) × (r ≤ length text.now)) }
+    ensures grows { Grows (W.contents to.old) (W.contents to.new) }
 {
     let end = line_end(text, at);
     say(to, &text[at..end])?;
@@ -182,7 +196,9 @@ fn plan<W: Write>(to: &mut W, text: &[u8], at: usize) -> io::Result<usize>
     planned(to, text, after(text, end))
 }
 
-fn plans<W: Write>(to: &mut W, text: &[u8]) -> io::Result<()> {
+fn plans<W: Write>(to: &mut W, text: &[u8]) -> io::Result<()>
+    ensures grows { Grows (W.contents to.old) (W.contents to.new) }
+{
     let mut p = 0;
     while p < text.len() {
         p = plan(to, text, p)?;

@@ -4,9 +4,11 @@
 #![tactic(auto)]
 
 ghost use Rattle.std.specs.Prelude.{◌≡◌, ◌<◌, ◌≤◌, length, IfOk};
+ghost use Rattle.printing.specs.Text.{Grows};
 ghost use Rattle.reader_cases.specs.Replied.{reader_at, replied, is_refused};
 
 use number::Spelled;
+use printing::{digits, say};
 use reading::read_full;
 use std::io;
 use std::io::Write;
@@ -16,10 +18,6 @@ use std::io::Write;
 struct Reply {
     number: Spelled,
     at: usize,
-}
-
-fn say<W: Write>(to: &mut W, text: &[u8]) -> io::Result<()> {
-    to.write_all(text)
 }
 
 // A reader at an offset is asked once.
@@ -32,30 +30,33 @@ fn next_at(bytes: &[u8], at: usize) -> Reply
     Reply { number, at: r.at }
 }
 
-fn show_number<W: Write>(to: &mut W, found: Spelled) -> io::Result<()> {
+fn show_number<W: Write>(to: &mut W, found: Spelled) -> io::Result<()>
+    ensures grows { Grows (W.contents to.old) (W.contents to.new) }
+{
     match found {
-        Spelled::Shortest(value, _) => write!(to, "{value}"),
+        Spelled::Shortest(value, _) => digits(to, value as u64),
         Spelled::Padded(value, _) => {
-            write!(to, "{value}")?;
+            digits(to, value as u64)?;
             say(to, b" padded")
         }
         Spelled::Refused(refusal) => {
             say(to, b"refused ")?;
-            write!(to, "{refusal}")
+            digits(to, refusal as u64)
         }
     }
 }
 
 // The reader's next answer on a line.
 fn ask<W: Write>(to: &mut W, bytes: &[u8], at: usize) -> io::Result<Reply>
-    ensures { IfOk result (λ r. r ≡ replied (reader_at bytes.entry at)) }
+    ensures reply { IfOk result (λ r. r ≡ replied (reader_at bytes.entry at)) }
+    ensures grows { Grows (W.contents to.old) (W.contents to.new) }
 {
     let reply = next_at(bytes, at);
     let number = reply.number;
     show_number(to, number)?;
     say(to, b" at ")?;
     let at = reply.at;
-    write!(to, "{at}")?;
+    digits(to, at as u64)?;
     say(to, b"\n")?;
     Ok(reply)
 }
@@ -71,7 +72,9 @@ fn is_refused(found: Spelled) -> bool
 }
 
 // Asks up to the first refusal, and once more.
-fn ask_all<W: Write>(to: &mut W, bytes: &[u8]) -> io::Result<()> {
+fn ask_all<W: Write>(to: &mut W, bytes: &[u8]) -> io::Result<()>
+    ensures grows { Grows (W.contents to.old) (W.contents to.new) }
+{
     let mut at = 0;
     loop {
         let reply = ask(to, bytes, at)?;
@@ -85,12 +88,16 @@ fn ask_all<W: Write>(to: &mut W, bytes: &[u8]) -> io::Result<()> {
     Ok(())
 }
 
-fn show_byte<W: Write>(to: &mut W, value: u8) -> io::Result<()> {
+fn show_byte<W: Write>(to: &mut W, value: u8) -> io::Result<()>
+    ensures grows { Grows (W.contents to.old) (W.contents to.new) }
+{
     say(to, b" ")?;
-    write!(to, "{value}")
+    digits(to, value as u64)
 }
 
-fn show_bytes<W: Write>(to: &mut W, bytes: &[u8]) -> io::Result<()> {
+fn show_bytes<W: Write>(to: &mut W, bytes: &[u8]) -> io::Result<()>
+    ensures grows { Grows (W.contents to.old) (W.contents to.new) }
+{
     say(to, b"bytes")?;
     let mut i = 0;
     while i < bytes.len() {
@@ -115,7 +122,8 @@ fn piece_end(start: usize, count: u8, whole: usize) -> usize
 // The piece whose length stands at an offset; where the next one's does.
 fn piece<W: Write>(to: &mut W, input: &[u8], at: usize) -> io::Result<usize>
     requires { at < length input.now }
-    ensures { IfOk result (λ r. (at < r) × (r ≤ length input.now)) }
+    ensures next { IfOk result (λ r. (at < r) × (r ≤ length input.now)) }
+    ensures grows { Grows (W.contents to.old) (W.contents to.new) }
 {
     let start = at + 1;
     let end = piece_end(start, input[at], input.len());
@@ -125,7 +133,9 @@ fn piece<W: Write>(to: &mut W, input: &[u8], at: usize) -> io::Result<usize>
     Ok(end)
 }
 
-fn pieces<W: Write>(to: &mut W, input: &[u8]) -> io::Result<()> {
+fn pieces<W: Write>(to: &mut W, input: &[u8]) -> io::Result<()>
+    ensures grows { Grows (W.contents to.old) (W.contents to.new) }
+{
     let mut at = 0;
     while at < input.len() {
         at = piece(to, input, at)?;
