@@ -1,7 +1,7 @@
 -- The line is written, its answer where it has one, and the line's end.
 use Rattle.std.proofs.Common.{rules}
 use Rattle.printing.specs.Text.{Grows}
-use Rattle.printing.proofs.Writes.{growing, writes_grow, grows_then}
+use Rattle.printing.proofs.Writes.{growing}
 use Rattle.cases.proofs.show.Goals as goal
 use Rattle.cases.proofs.show.Goals.{then-letter-ne35+in_ok-say-2+in_ok-answer, else-letter-ne35}
 
