@@ -19,8 +19,9 @@
  * memory. Its tables live on the stack, which matters to threads with small
  * stacks: docs/ARCHITECTURE.md has their size.
  *
- * The library is built for the machine that builds it, x86-64 with the calling
- * convention of System V (Linux); nothing in this header is bound to that. */
+ * The library is built for x86-64 with the calling convention of System V
+ * (Linux), and needs a processor of x86-64-v2 or later, which it does not test;
+ * nothing in this header is bound to that. */
 #ifndef DRIFT_H
 #define DRIFT_H
 
