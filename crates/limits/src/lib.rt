@@ -1,5 +1,5 @@
-// Every limit of a plan, and the numbers that follow from them: the one place where they stand. A contract cannot name a constant of code, so each
-// number stands here twice, as a constant and under specs/Limits; module `agree` shows that the two are one.
+// Every limit of a plan, and the numbers that follow from them: the one place where they stand. Each number stands here twice, as a constant and under
+// specs/Limits, which is what contracts name; module `agree` shows that the two are one.
 #![tactic(auto)]
 
 mod agree;
