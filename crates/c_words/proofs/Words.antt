@@ -6,7 +6,7 @@ use mathlib.Core.List.{List, [], ◌∷◌}
 use lib.ListN.{length, set, drop}
 use borrow.Author.Tests.{lt-ltb, le-ltb, le-leb, lt-leb}
 use Rattle.c_words.specs.Words.{judge_word, count_word, check_word, write_word, number_word, margin_word, room_word, harm_short, harm_word, harm_out, max_field, Fields}
-use Rattle.number.specs.declared.Spelled.TheVariants as spelled
+use Rattle.number.specs.Shortest as spelled
 
 pub verdict_fields : (b s k : ℕ) → b ≤ 1 → Fields (record { number = 0; values = b ∷ s ∷ k ∷ [] }) → (b ≤ 1) × (s ≤ max_field) × (k ≤ max_field)
 verdict_fields b s k h f = (h, f.fit 1, f.fit 2)

@@ -1,10 +1,11 @@
 -- Answers as one number each, made of fields. On a refusal the fields beside the number are 0.
-use Rattle.std.specs.Prelude.{◌≡◌, Bool, cond, ◌&&◌, List, ◌∷◌, ℕ, ◌+◌, ◌-◌, ◌*◌, ◌%◌, ◌^◌, ◌≤◌, ◌<◌, length, get_or, drop, eqb, ltb, leb}
-use Rattle.number.specs.declared.Number.{Number}
-use Rattle.number.specs.declared.Number.TheVariants.{Value, Refused}
-use Rattle.number.specs.declared.Spelled.{Spelled}
+use Rattle.std.specs.Prelude.{◌≡◌, Result, Bool, cond, ◌&&◌, List, [], ◌∷◌, ℕ, ◌+◌, ◌-◌, ◌*◌, ◌%◌, ◌^◌, ◌≤◌, ◌<◌, length, get_or, drop, eqb, ltb, leb}
+use Rattle.number.specs.Number.{Number, Value, Refused}
+use Rattle.number.specs.Shortest.{Spelled}
+use Rattle.limits.specs.declared.refusal.Refusal.{Refusal}
 use Rattle.number.specs.Answer.{Answer}
-use Rattle.number.specs.declared.Spelled.TheVariants as spelled
+use Rattle.call.specs.Answered.{answered}
+use Rattle.number.specs.Shortest as spelled
 
 -- a value of an answer; 0 past the last
 abbrev pub value : Answer → ℕ → ℕ
@@ -75,3 +76,11 @@ pub record StatesFit (a : Answer) : Type 0 where
 -- the values fit their fields
 pub record Fields (a : Answer) : Type 0 where
   pub fit : (i : ℕ) → value a i ≤ max_field
+
+-- the only value of an answer that is a count
+abbrev pub only : ℕ → List ℕ
+only n = n ∷ []
+
+-- which fits its field
+abbrev pub CountFits : Result ℕ Refusal → Type 0
+CountFits answer = value (answered only answer) 0 ≤ 2 ^ 40

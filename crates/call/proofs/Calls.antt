@@ -1,22 +1,28 @@
 -- The ways of a call: refused for its bytes, refused for its scratch, or past number 8.
-use Prim.Native.Nat.{ℕ, ◌≤◌}
+use Prim.Native.Nat.{ℕ, zero, suc, ◌≤◌}
 use native.Mathlib.Omega.{arith}
 use mathlib.Core.Path.{◌≡◌, refl, sym, ◌∙◌, ap}
-use mathlib.Core.Bool.{true, false}
-use mathlib.Core.List.{List, [], ◌∷◌, ◌++◌}
-use lib.ListN.{length, drop, take, replicate}
-use lib.Seq.{length-take-le}
+use mathlib.Core.Bool.{true, cond}
+use mathlib.Core.List.{List, [], ◌∷◌}
+use lib.ListN.{length}
 use lib.Dec.{eqb}
 use borrow.Author.Tests.{eqb-true, eqb-false, ne_eqb}
+use Rattle.std.specs.Prelude.{Result, Ok, Err, IsErrAnd}
+use Rattle.limits.specs.declared.refusal.Refusal.{Refusal}
+use Rattle.limits.specs.Refusal.{code_of, refusal_number}
 use Rattle.theory.proofs.Below.{and↔, leb↔, test↔, cond_ind}
-use Rattle.parser.specs.declared.Reading.{Reading}
+use Rattle.number.specs.Answer.{Answer, answer}
+use Rattle.model.specs.declared.Plan.{Plan}
+use Rattle.parser.specs.Parse.{Reading, numbered}
+use Rattle.parser.proofs.Stops.{code_some}
 use Rattle.plan_reader.specs.Accept.{read_model}
 use Rattle.model.specs.Model.{Lawful}
 use Rattle.plan_reader.proofs.Accepted.{accepted_lawful}
 use Rattle.graph.specs.States.{states}
-use Rattle.call.specs.declared.Admission.{Admission}
-use Rattle.call.specs.Call.{model_of, states_of, enough, refusal, admission}
-use Rattle.call.specs.Scratch.{lengths, Scratch, Zeroed, left, ScratchLeft}
+use Rattle.call.specs.Admitted.{called}
+use Rattle.call.specs.Answered.{answered}
+use Rattle.call.specs.Call.{model_of, states_of, enough, refusal}
+use Rattle.call.specs.Scratch.{lengths, cleared, left, ScratchLeft}
 
 enough_each : (s a b c d : ℕ) → enough s (a ∷ b ∷ c ∷ d ∷ []) ≡ true → (s ≤ a) × (s ≤ b) × (s ≤ c) × (s ≤ d)
 unfolding enough
@@ -45,88 +51,96 @@ enough_taken bytes lent =
 
 -- ---- how a call is admitted, from a reading
 
-module _ (bytes lent : List ℕ) (r : Reading) (e : r ≡ read_model bytes) where
-  pub by_bytes : (r.refusal ≡ 0 → ⊥) → record { refusal = r.refusal; states = 0; model = r.model } ≡ admission bytes lent
-  unfolding admission refusal
-  by_bytes ne = rw e (let ne' = rw e at ne in simp (ne_eqb (read_model bytes).refusal 0 ne') refl)
+-- no refusal has number 0
+pub code_ne : (r : Refusal) → code_of r ≡ 0 → ⊥
+code_ne r e = omega (arith, code_some r)
 
-  module _ (s : ℕ) (many : s ≡ states r.model) (z : r.refusal ≡ 0) where
-    pub by_scratch : enough s lent ≡ false → record { refusal = 8; states = s; model = r.model } ≡ admission bytes lent
-    unfolding admission refusal
-    by_scratch f =
-        let y = ap (λ (x : Reading). x.refusal) (sym e) ∙ z in
-        let n = many ∙ ap (λ (x : Reading). states x.model) e in
-        let g = ap (λ (k : ℕ). enough k lent) (sym n) ∙ f in
-        simp (y, g) (rw (n, e) refl)
+-- the number of what `?` passes on
+pub passed_number : {A : Type 0} (x : Result A Refusal) (r : Refusal) → IsErrAnd x (λ e. e ≡ r) → refusal_number x ≡ code_of r
+passed_number (Ok v) r h = absurd h
+passed_number (Err e) r h = ap code_of h
 
-    pub by_none : enough s lent ≡ true → record { refusal = 0; states = s; model = r.model } ≡ admission bytes lent
-    unfolding admission refusal
-    by_none t =
-        let y = ap (λ (x : Reading). x.refusal) (sym e) ∙ z in
-        let n = many ∙ ap (λ (x : Reading). states x.model) e in
-        let g = ap (λ (k : ℕ). enough k lent) (sym n) ∙ t in
-        simp (y, g) (rw (n, e) refl)
+-- and the answer that it is
+pub passed_told : {A : Type 0} (values : A → List ℕ) (x : Result A Refusal) (r : Refusal) → IsErrAnd x (λ e. e ≡ r)
+    → answered values x ≡ record { number = code_of r; values = [] }
+passed_told values (Ok v) r h = absurd h
+passed_told values (Err e) r h = ap (λ (x : Refusal). record { number = code_of x; values = [] }) h
 
--- ---- what an operation makes of an admission, with four slices lent
+pub passed_answer : {A : Type 0} (values : A → List ℕ) (x : Result A Refusal) (r : Refusal) → IsErrAnd x (λ e. e ≡ r) → (said : Answer) (bytes lent : List ℕ)
+    → refusal bytes lent ≡ code_of r → answered values x ≡ called said bytes lent
+unfolding answer
+passed_answer values x r h said bytes lent is = passed_told values x r h ∙ sym (simp (is, ne_eqb (code_of r) 0 (code_ne r)) refl)
 
-module _ (bytes a b c d : List ℕ) (r : Admission) (is : r ≡ admission bytes (lengths a b c d)) where
+module _ (bytes lent : List ℕ) where
+  pub refused_read : (r : Refusal) → numbered (Err r) ≡ read_model bytes → refusal bytes lent ≡ code_of r
+  unfolding refusal
+  refused_read r e =
+      let f : (read_model bytes).refusal ≡ code_of r = ap (λ (x : Reading). x.refusal) (sym e) in
+      simp (f, ne_eqb (code_of r) 0 (code_ne r)) refl
+
+  pub measured : (p : Plan) → numbered (Ok p) ≡ read_model bytes → (s : ℕ) → s ≡ states p.model
+      → refusal bytes lent ≡ cond (enough s lent) 0 8
+  unfolding refusal
+  measured p e s is =
+      let f : (read_model bytes).refusal ≡ 0 = ap (λ (x : Reading). x.refusal) (sym e) in
+      let n : states (read_model bytes).model ≡ s = ap (λ (x : Reading). states x.model) (sym e) ∙ sym is in
+      simp (f, n) refl
+
+-- ---- what is left of four slices
+
+module _ (bytes a b c d : List ℕ) where
   abbrev lent : List ℕ
   lent = lengths a b c d
 
-  pub refused_by : refusal bytes lent ≡ r.refusal
-  unfolding admission
-  refused_by = sym (ap (λ (x : Admission). x.refusal) is)
-
   -- refused: nothing is touched
-  pub untouched : (r.refusal ≡ 0 → ⊥) → ScratchLeft bytes a b c d a b c d
+  pub untouched : (r : Refusal) → refusal bytes lent ≡ code_of r → ScratchLeft bytes a b c d a b c d
   unfolding left
-  untouched ne = record { first = alone a; second = alone b; third = alone c; fourth = alone d }
+  untouched r is = record { first = alone a; second = alone b; third = alone c; fourth = alone d }
     where
       alone : (xs : List ℕ) → xs ≡ left bytes lent xs
-      alone xs = simp (refused_by, ne_eqb r.refusal 0 ne) refl
+      alone xs = simp (is, ne_eqb (code_of r) 0 (code_ne r)) refl
 
-  module _ (z : r.refusal ≡ 0) where
-    pub taken : refusal bytes lent ≡ 0
-    taken = refused_by ∙ z
-
-    pub model_is : r.model ≡ model_of bytes
-    unfolding admission
-    model_is = ap (λ (x : Admission). x.model) is
-
-    pub states_is : r.states ≡ states_of bytes
-    unfolding admission
-    states_is = ap (λ (x : Admission). x.states) is ∙ simp (taken_in bytes lent taken) refl
-
-    pub states_of_model : r.states ≡ states r.model
-    states_of_model = states_is ∙ ap states (sym model_is)
-
-    pub lawful : Lawful r.model
-    lawful = rw model_is (accepted bytes lent taken)
-
+  module _ (taken : refusal bytes lent ≡ 0) (s : ℕ) (is : s ≡ states_of bytes) where
     -- each slice has room
-    pub room : (r.states ≤ length a) × (r.states ≤ length b) × (r.states ≤ length c) × (r.states ≤ length d)
+    pub room : (s ≤ length a) × (s ≤ length b) × (s ≤ length c) × (s ≤ length d)
     room =
-        let s = states_is in
         let (p, q, t, u) = enough_each (states_of bytes) (length a) (length b) (length c) (length d) (enough_taken bytes lent taken) in
         (omega arith, omega arith, omega arith, omega arith)
 
-    -- the first numbers of each
-    pub parts : Scratch (states r.model) (take r.states a) (take r.states b) (take r.states c) (take r.states d)
-    parts =
-        let (p, q, t, u) = room in
-        record {
-          first = length-take-le _ _ p ∙ states_of_model;
-          second = length-take-le _ _ q ∙ states_of_model;
-          third = length-take-le _ _ t ∙ states_of_model;
-          fourth = length-take-le _ _ u ∙ states_of_model;
-        }
-
-    -- done: they came back as zeros
-    pub zero_left : (a' b' c' d' : List ℕ) → Zeroed (states r.model) a' b' c' d'
-        → ScratchLeft bytes a b c d (a' ++ drop r.states a) (b' ++ drop r.states b) (c' ++ drop r.states c) (d' ++ drop r.states d)
+    -- done: the first S of each are zeros
+    pub zero_left : (a' b' c' d' : List ℕ) → a' ≡ cleared s a → b' ≡ cleared s b → c' ≡ cleared s c → d' ≡ cleared s d
+        → ScratchLeft bytes a b c d a' b' c' d'
     unfolding left
-    zero_left a' b' c' d' h =
-        record { first = zero a a' h.first; second = zero b b' h.second; third = zero c c' h.third; fourth = zero d d' h.fourth }
+    zero_left a' b' c' d' e f g h =
+        record { first = zero a a' e; second = zero b b' f; third = zero c c' g; fourth = zero d d' h }
       where
-        zero : (xs ys : List ℕ) → ys ≡ replicate (states r.model) 0 → ys ++ drop r.states xs ≡ left bytes lent xs
-        zero xs ys e = simp taken (rw (e, ← states_of_model, states_is) refl)
+        zero : (xs ys : List ℕ) → ys ≡ cleared s xs → ys ≡ left bytes lent xs
+        zero xs ys e = simp taken (e ∙ ap (λ (k : ℕ). cleared k xs) is)
+
+-- ---- what is said by number
+
+-- past number 8: no refusal, or one
+pub told : (n : ℕ) (xs ys : List ℕ) → n ≡ 0 → xs ≡ ys → record { number = 0; values = xs } ≡ answer n ys
+unfolding answer
+told n xs ys z e = simp z (ap (λ (vs : List ℕ). record { number = 0; values = vs }) e)
+
+pub refused_told : (n : ℕ) (r : Refusal) (ys : List ℕ) → n ≡ code_of r → record { number = code_of r; values = [] } ≡ answer n ys
+unfolding answer
+refused_told n r ys e = simp (e, ne_eqb (code_of r) 0 (code_ne r)) refl
+
+module _ (bytes lent : List ℕ) where
+  -- a number past 8 comes after the others
+  pub called_answer : (n : ℕ) (xs : List ℕ) → called (answer n xs) bytes lent ≡ answer (cond (eqb (refusal bytes lent) 0) n (refusal bytes lent)) xs
+  unfolding answer
+  called_answer n xs = by (refusal bytes lent)
+    where
+      by : (r : ℕ) → cond (eqb r 0) (answer n xs) (answer r []) ≡ answer (cond (eqb r 0) n r) xs
+      by zero = refl
+      by (suc r) = simp (ne_eqb (suc r) 0 (λ e. omega (arith, e))) refl
+
+  pub called_plain : (xs : List ℕ) → called (answer 0 xs) bytes lent ≡ answer (refusal bytes lent) xs
+  called_plain xs = called_answer 0 xs ∙ ap (λ (k : ℕ). answer k xs) (by (refusal bytes lent))
+    where
+      by : (r : ℕ) → cond (eqb r 0) 0 r ≡ r
+      by zero = refl
+      by (suc r) = simp (ne_eqb (suc r) 0 (λ e. omega (arith, e))) refl

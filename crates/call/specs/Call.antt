@@ -4,7 +4,6 @@ use Rattle.theory.specs.Lists.{every}
 use Rattle.model.specs.declared.Model.{Model}
 use Rattle.plan_reader.specs.Accept.{read_model}
 use Rattle.graph.specs.States.{states}
-use Rattle.call.specs.declared.Admission.{Admission}
 
 -- the model that the bytes spell
 abbrev pub model_of : List ℕ → Model
@@ -21,8 +20,3 @@ enough s lent = every (leb s) lent
 -- "A model is judged number by number, 1, 2, then range, low and high when high is read; then 6, 7, 8"; 0 where the call goes on
 unfoldable pub refusal : List ℕ → List ℕ → ℕ
 refusal bytes lent = cond (eqb (read_model bytes).refusal 0) (cond (enough (states_of bytes) lent) 0 8) (read_model bytes).refusal
-
--- the refusal beside the model and S; where the bytes are refused, no states
-unfoldable pub admission : List ℕ → List ℕ → Admission
-admission bytes lent =
-    record { refusal = refusal bytes lent; states = cond (eqb (read_model bytes).refusal 0) (states_of bytes) 0; model = model_of bytes }

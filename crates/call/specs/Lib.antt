@@ -6,3 +6,9 @@ pub mod Call
 pub mod Scratch
 -- 02 (g): refusal 17.
 pub mod Joint
+-- A result as 01 tells it.
+pub mod Answered
+-- What a call goes on with, and what comes of it.
+pub mod Admitted
+-- The four slices in one struct.
+pub mod Lent

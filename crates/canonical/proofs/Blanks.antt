@@ -10,7 +10,7 @@ use Rattle.limits.specs.Limits.{KnownMark}
 use Rattle.stay_limits.specs.Stay.{resolve, last_exit}
 use Rattle.stay_limits.proofs.Exits.{LastExit, exit_last, exit_same}
 use Rattle.model.specs.declared.Model.{Model}
-use Rattle.parser.specs.declared.Reading.{Reading}
+use Rattle.parser.specs.Parse.{Reading}
 use Rattle.model.specs.Model.{source_of, high_at}
 use Rattle.stay_fields.specs.Resolve.{default_at}
 use Rattle.canonical.specs.Blank.{Blank, ceiling, none, greatest}

@@ -12,7 +12,7 @@ use Rattle.number.specs.Sequence.{SpellsAll}
 use Rattle.number.proofs.Laws.{cond_ind}
 use Rattle.number.proofs.Sequence.{plain, reads_law}
 use Rattle.model.specs.declared.Model.{Model}
-use Rattle.parser.specs.declared.Reading.{Reading}
+use Rattle.parser.specs.Parse.{Reading}
 use Rattle.model.specs.Each.{gather}
 use Rattle.model.specs.Model.{slot, source_of, target_of, limit_at, low_at, high_at, Lawful}
 use Rattle.stay_fields.specs.Resolve.{limit_of}

@@ -15,7 +15,7 @@ use Rattle.number.proofs.Spelling.{spell_grows, spell_all_few}
 use Rattle.number.proofs.Sequence.{spelled, spelled_shortest, Fit, fit_none, fit_more, fit_append}
 use Rattle.limits.specs.Limits.{max_clocks, max_locations, max_edges, KnownMark}
 use Rattle.model.specs.declared.Model.{Model}
-use Rattle.parser.specs.declared.Reading.{Reading}
+use Rattle.parser.specs.Parse.{Reading}
 use Rattle.model.specs.Each.{gather}
 use Rattle.model.specs.Model.{slot, limit_at, Lawful}
 use Rattle.stay_fields.specs.Resolve.{default_at}

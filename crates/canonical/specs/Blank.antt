@@ -1,7 +1,7 @@
 -- 02: "In models with mark 2, 0 means the greatest high end for that clock among the edges leaving the location, or the ceiling where no edge leaves.
 -- Mark 1 keeps its meaning."
 use Rattle.std.specs.Prelude.{ℕ, ◌≤◌, ◌<◌, ◌≡◌, get_or}
-use Rattle.parser.specs.declared.Reading.{Reading}
+use Rattle.parser.specs.Parse.{Reading}
 use Rattle.model.specs.Model.{high_at}
 
 -- edge e leaves location l: it is drawn from there, whether it can open or not, and wherever it leads

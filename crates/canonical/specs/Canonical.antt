@@ -2,7 +2,7 @@
 use Rattle.std.specs.Prelude.{ℕ, ◌+◌, ◌<◌, ◌≡◌, List, [], ◌∷◌, ◌++◌, cond, get_or, eqb}
 use Rattle.number.specs.Number.{spell_all}
 use Rattle.number.specs.Sequence.{SpellsAll}
-use Rattle.parser.specs.declared.Reading.{Reading}
+use Rattle.parser.specs.Parse.{Reading}
 use Rattle.model.specs.Each.{gather}
 use Rattle.limits.specs.Limits.{KnownMark}
 use Rattle.model.specs.Model.{source_of, target_of, limit_at, low_at, high_at, Lawful, Tidy}

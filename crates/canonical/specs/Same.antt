@@ -1,6 +1,6 @@
 -- 02: "two models with the same header, kinds, limits and edges in order", the mark among the header. Used places only.
 use Rattle.std.specs.Prelude.{ℕ, ◌<◌, ◌≡◌, get_or}
-use Rattle.parser.specs.declared.Reading.{Reading}
+use Rattle.parser.specs.Parse.{Reading}
 use Rattle.model.specs.Model.{source_of, target_of, limit_at, low_at, high_at}
 
 pub record SameContent (r s : Reading) : Type 0 where

@@ -1,14 +1,12 @@
 // Answers as 01 has them: the number, and behind 0 the values; a verdict is 0 safe, 1 unsafe.
 ghost use Rattle.printing.specs.Text.{Grows};
 
-use drift::{
-    Arrival, Bound, Evidence, Judgement, Marking, Onset, Space, Stored, Tolerance, Written,
-};
+use drift::{Bound, Evidence, Judgement, Onset, Refusal, Space, Tolerance, Written};
 use printing::{digits, say};
 use std::io;
 use std::io::Write;
 
-#[derive(Clone, Copy)]
+#[derive(Clone, Copy, Debug, PartialEq, Eq)]
 pub enum Answer {
     Refused(u8),
     One(usize),
@@ -17,80 +15,79 @@ pub enum Answer {
     Four(usize, usize, u64, u64),
 }
 
-pub fn of_judgement(found: Judgement) -> Answer {
-    match found {
-        Judgement::Safe(states, count) => Answer::Three(0, states, count),
-        Judgement::Unsafe(states, count) => Answer::Three(1, states, count),
-        Judgement::Refused(number) => Answer::Refused(number),
+impl From<usize> for Answer {
+    fn from(count: usize) -> Answer {
+        Answer::One(count)
     }
 }
 
-pub fn of_marking(found: Marking) -> Answer {
-    match found {
-        Marking::Marked(states) => Answer::One(states),
-        Marking::Refused(number) => Answer::Refused(number),
-    }
-}
-
-pub fn of_written(found: Written) -> Answer {
-    match found {
-        Written::Safe(bytes) => Answer::Two(0, bytes),
-        Written::Unsafe(bytes) => Answer::Two(1, bytes),
-        Written::Refused(number) => Answer::Refused(number),
-    }
-}
-
-pub fn of_stored(found: Stored) -> Answer {
-    match found {
-        Stored::Bytes(bytes) => Answer::One(bytes),
-        Stored::Refused(number) => Answer::Refused(number),
-    }
-}
-
-pub fn of_evidence(found: Evidence) -> Answer {
-    match found {
-        Evidence::Sheet => Answer::One(1),
-        Evidence::Trail => Answer::One(2),
-        Evidence::Refused(number) => Answer::Refused(number),
-    }
-}
-
-pub fn of_tolerance(found: Tolerance) -> Answer {
-    match found {
-        Tolerance::Bound(states, margin) => Answer::Two(states, margin as usize),
-        Tolerance::Refused(number) => Answer::Refused(number),
-    }
-}
-
-pub fn of_space(found: Space) -> Answer {
-    match found {
-        Space::Needs(states, scratch, sheet, steps) => {
-            Answer::Four(states, scratch, sheet as u64, steps as u64)
+impl From<Judgement> for Answer {
+    fn from(found: Judgement) -> Answer {
+        match found {
+            Judgement::Safe(states, count) => Answer::Three(0, states, count),
+            Judgement::Unsafe(states, count) => Answer::Three(1, states, count),
         }
-        Space::Refused(number) => Answer::Refused(number),
     }
 }
 
-pub fn of_bound(found: Bound) -> Answer {
-    match found {
-        Bound::Safe(states, margin) => Answer::Three(0, states, margin),
-        Bound::Unsafe(states) => Answer::Three(1, states, 0),
-        Bound::Refused(number) => Answer::Refused(number),
+impl From<Written> for Answer {
+    fn from(found: Written) -> Answer {
+        match found {
+            Written::Safe(bytes) => Answer::Two(0, bytes),
+            Written::Unsafe(bytes) => Answer::Two(1, bytes),
+        }
     }
 }
 
-pub fn of_onset(found: Onset) -> Answer {
-    match found {
-        Onset::Safe(states) => Answer::Four(0, states, 0, 0),
-        Onset::Within(states, base, rate) => Answer::Four(1, states, base, rate),
-        Onset::Refused(number) => Answer::Refused(number),
+impl From<Evidence> for Answer {
+    fn from(found: Evidence) -> Answer {
+        match found {
+            Evidence::Sheet => Answer::One(1),
+            Evidence::Trail => Answer::One(2),
+        }
     }
 }
 
-pub fn of_arrival(found: Arrival) -> Answer {
+impl From<Tolerance> for Answer {
+    fn from(found: Tolerance) -> Answer {
+        Answer::Two(found.states, found.margin as usize)
+    }
+}
+
+impl From<Space> for Answer {
+    fn from(found: Space) -> Answer {
+        Answer::Four(
+            found.states,
+            found.scratch,
+            found.sheet as u64,
+            found.steps as u64,
+        )
+    }
+}
+
+impl From<Bound> for Answer {
+    fn from(found: Bound) -> Answer {
+        match found {
+            Bound::Safe(states, margin) => Answer::Three(0, states, margin),
+            Bound::Unsafe(states) => Answer::Three(1, states, 0),
+        }
+    }
+}
+
+impl From<Onset> for Answer {
+    fn from(found: Onset) -> Answer {
+        match found {
+            Onset::Safe(states) => Answer::Four(0, states, 0, 0),
+            Onset::Within(states, base, rate) => Answer::Four(1, states, base, rate),
+        }
+    }
+}
+
+// What any operation answers.
+pub fn told<T: Into<Answer> + Drop>(found: Result<T, Refusal>) -> Answer {
     match found {
-        Arrival::Time(units) => Answer::One(units),
-        Arrival::Refused(number) => Answer::Refused(number),
+        Ok(value) => value.into(),
+        Err(r) => Answer::Refused(r.code()),
     }
 }
 

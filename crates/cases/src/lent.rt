@@ -33,8 +33,7 @@ pub struct Lengths {
 pub fn length(line: &[u8], k: usize) -> usize
     ensures { result ≤ max_states }
 {
-    let n = field(line, k, LENGTH) as usize;
-    if n < MAX_STATES { n } else { MAX_STATES }
+    usize::from(field(line, k, LENGTH)).min(MAX_STATES)
 }
 
 // The output's stands in field 1, if there is one, the others in field k and the next three.
@@ -65,10 +64,8 @@ fn weight(x: Word) -> usize
 // How many of the numbers are zero, if the others are as they were.
 fn zeros(a: &Scratch) -> usize {
     let mut n = 0;
-    let mut i = 0;
-    while i < MAX_STATES {
+    for i in 0..MAX_STATES {
         n += weight(a[i]);
-        i += 1;
     }
     n
 }
@@ -99,37 +96,26 @@ fn show_byte<W: Write>(to: &mut W, i: usize, byte: u8, commas: bool) -> io::Resu
     } else if commas {
         say(to, b",")?;
     }
-    put(to, byte as usize)
+    put(to, usize::from(byte))
 }
 
-// The first n bytes.
-fn show_bytes<W: Write>(to: &mut W, out: &Output, n: usize, commas: bool) -> io::Result<()>
+fn show_bytes<W: Write>(to: &mut W, bytes: &[u8], commas: bool) -> io::Result<()>
     ensures grows { Grows (W.contents to.old) (W.contents to.new) }
 {
     say(to, b", out")?;
-    let mut i = 0;
-    while i < MAX_STATES {
-        if n <= i {
-            return Ok(());
-        }
-        show_byte(to, i, out[i], commas)?;
-        i += 1;
+    for i in 0..bytes.len() {
+        show_byte(to, i, bytes[i], commas)?;
     }
     Ok(())
 }
 
-// The n bytes of the output, where an operation has one: marks together, evidence and plans with commas.
-pub fn show_output<W: Write>(
-    to: &mut W,
-    operation: Operation,
-    out: &Output,
-    n: usize,
-) -> io::Result<()>
+// The output, where an operation has one: marks together, evidence and plans with commas.
+pub fn show_output<W: Write>(to: &mut W, operation: Operation, out: &[u8]) -> io::Result<()>
     ensures grows { Grows (W.contents to.old) (W.contents to.new) }
 {
     match operation {
-        Operation::Marks | Operation::MarksJoint => show_bytes(to, out, n, false),
-        Operation::Write | Operation::WriteJoint | Operation::Plan => show_bytes(to, out, n, true),
+        Operation::Marks | Operation::MarksJoint => show_bytes(to, out, false),
+        Operation::Write | Operation::WriteJoint | Operation::Plan => show_bytes(to, out, true),
         _ => Ok(()),
     }
 }

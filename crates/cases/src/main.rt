@@ -14,10 +14,7 @@ mod operation;
 ghost use Rattle.std.specs.Prelude.{◌≡◌, ◌+◌, ◌≤◌, ◌<◌, min, length, IfOk};
 ghost use Rattle.printing.specs.Text.{Grows};
 
-use answers::{
-    Answer, of_arrival, of_bound, of_evidence, of_judgement, of_marking, of_onset, of_space,
-    of_stored, of_tolerance, of_written, show_answer,
-};
+use answers::{Answer, show_answer, told};
 use counting::rounds;
 use lent::{Output, Scratch, length, lengths_of, show_output, show_zeros};
 use limits::{MAX_STATES, Word};
@@ -46,7 +43,7 @@ fn check<W: Write>(to: &mut W, plan: &[u8], line: &[u8]) -> io::Result<()>
     let mut d: [Word; 4000] = [7; 4000];
     show_answer(
         to,
-        of_evidence(drift::check_evidence(plan, &bytes[..n], &mut a, &mut b, &mut c, &mut d)),
+        told(drift::check_evidence(plan, &bytes[..n], &mut a, &mut b, &mut c, &mut d)),
     )
 }
 
@@ -62,15 +59,15 @@ fn call(
     out: &mut [u8],
 ) -> Answer {
     match operation {
-        Operation::Marks => of_marking(drift::marks(plan, s1, s2, s3, s4, out)),
-        Operation::Write => of_written(drift::write_evidence(plan, s1, s2, s3, s4, out)),
-        Operation::JudgeJoint => of_judgement(drift::judge_joint(plan, s1, s2, s3, s4)),
-        Operation::MarksJoint => of_marking(drift::marks_joint(plan, s1, s2, s3, s4, out)),
-        Operation::WriteJoint => of_written(drift::write_joint(plan, s1, s2, s3, s4, out)),
-        Operation::SheetMargin => of_bound(drift::sheet_margin(plan, s1, s2, s3, s4)),
-        Operation::Harm => of_onset(drift::harm(plan, s1, s2, s3, s4)),
-        Operation::Soonest => of_arrival(drift::soonest(plan, location, s1, s2, s3, s4)),
-        _ => of_judgement(drift::judge(plan, s1, s2, s3, s4)),
+        Operation::Marks => told(drift::marks(plan, s1, s2, s3, s4, out)),
+        Operation::Write => told(drift::write_evidence(plan, s1, s2, s3, s4, out)),
+        Operation::JudgeJoint => told(drift::judge_joint(plan, s1, s2, s3, s4)),
+        Operation::MarksJoint => told(drift::marks_joint(plan, s1, s2, s3, s4, out)),
+        Operation::WriteJoint => told(drift::write_joint(plan, s1, s2, s3, s4, out)),
+        Operation::SheetMargin => told(drift::sheet_margin(plan, s1, s2, s3, s4)),
+        Operation::Harm => told(drift::harm(plan, s1, s2, s3, s4)),
+        Operation::Soonest => told(drift::soonest(plan, location, s1, s2, s3, s4)),
+        _ => told(drift::judge(plan, s1, s2, s3, s4)),
     }
 }
 
@@ -80,8 +77,8 @@ fn shorten<W: Write>(to: &mut W, plan: &[u8], line: &[u8]) -> io::Result<()>
 {
     let mut out: Output = [7; MAX_STATES];
     let n = length(line, 1);
-    show_answer(to, of_stored(drift::write_plan(plan, &mut out[..n])))?;
-    show_output(to, Operation::Plan, &out, n)
+    show_answer(to, told(drift::write_plan(plan, &mut out[..n])))?;
+    show_output(to, Operation::Plan, &out[..n])
 }
 
 // With scratch of the lengths in field k and the next three; a location stands in field 1.
@@ -102,26 +99,21 @@ fn run<W: Write>(
     let mut out: Output = [7; MAX_STATES];
     let location = long_field(line, 1, 0);
     let lent = lengths_of(line, k);
-    let n1 = lent.s1;
-    let n2 = lent.s2;
-    let n3 = lent.s3;
-    let n4 = lent.s4;
-    let n = lent.out;
     show_answer(
         to,
         call(
             operation,
             plan,
             location,
-            &mut s1[..n1],
-            &mut s2[..n2],
-            &mut s3[..n3],
-            &mut s4[..n4],
-            &mut out[..n],
+            &mut s1[..lent.s1],
+            &mut s2[..lent.s2],
+            &mut s3[..lent.s3],
+            &mut s4[..lent.s4],
+            &mut out[..lent.out],
         ),
     )?;
     show_zeros(to, &s1, &s2, &s3, &s4)?;
-    show_output(to, operation, &out, n)
+    show_output(to, operation, &out[..lent.out])
 }
 
 fn answer<W: Write>(to: &mut W, plan: &[u8], line: &[u8]) -> io::Result<()>
@@ -129,8 +121,8 @@ fn answer<W: Write>(to: &mut W, plan: &[u8], line: &[u8]) -> io::Result<()>
 {
     let operation = operation_of(line);
     match operation {
-        Operation::Margin => show_answer(to, of_tolerance(drift::margin(plan))),
-        Operation::Room => show_answer(to, of_space(drift::room(plan))),
+        Operation::Margin => show_answer(to, told(drift::margin(plan))),
+        Operation::Room => show_answer(to, told(drift::room(plan))),
         Operation::Check => check(to, plan, line),
         Operation::Plan => shorten(to, plan, line),
         Operation::Rounds => show_answer(to, rounds(plan)),
@@ -161,6 +153,7 @@ fn cases<W: Write>(to: &mut W, plan: &[u8], text: &[u8], at: usize) -> io::Resul
     ensures grows { Grows (W.contents to.old) (W.contents to.new) }
 {
     let mut p = at;
+    // A while: the next line begins where this one ends.
     while p < text.len() {
         if text[p] == b'-' {
             return Ok(p);
@@ -200,6 +193,7 @@ fn plans<W: Write>(to: &mut W, text: &[u8]) -> io::Result<()>
     ensures grows { Grows (W.contents to.old) (W.contents to.new) }
 {
     let mut p = 0;
+    // A while: the next plan begins where the lines of this one end.
     while p < text.len() {
         p = plan(to, text, p)?;
     }

@@ -1,7 +1,7 @@
 // What a line asks for.
 use lines::letter;
 
-#[derive(Clone, Copy)]
+#[derive(Clone, Copy, Debug, PartialEq, Eq)]
 pub enum Operation {
     Judge,
     JudgeJoint,
@@ -20,65 +20,27 @@ pub enum Operation {
 }
 
 // `judge`, `marks` and `write`, or `judge_joint` and its like.
-fn of_judge(line: &[u8]) -> Operation {
-    if letter(line, 5) == b'_' {
-        return Operation::JudgeJoint;
-    }
-    Operation::Judge
-}
-
-fn of_marks(line: &[u8]) -> Operation {
-    if letter(line, 5) == b'_' {
-        return Operation::MarksJoint;
-    }
-    Operation::Marks
-}
-
-fn of_write(line: &[u8]) -> Operation {
-    if letter(line, 5) == b'_' {
-        return Operation::WriteJoint;
-    }
-    Operation::Write
-}
-
-fn of_round(line: &[u8]) -> Operation {
-    if letter(line, 2) == b'o' {
-        return Operation::Room;
-    }
-    Operation::Rounds
+fn is_joint(line: &[u8]) -> bool {
+    letter(line, 5) == b'_'
 }
 
 // By the first letter; `sheet_margin` or `soonest` by the second, `room` or `rounds` by the third, `marks` or `margin` by the fourth. A piece of
 // evidence has none.
 pub fn operation_of(line: &[u8]) -> Operation {
-    let first = letter(line, 0);
-    if first == b'j' {
-        return of_judge(line);
+    match letter(line, 0) {
+        b'j' if is_joint(line) => Operation::JudgeJoint,
+        b'j' => Operation::Judge,
+        b'w' if is_joint(line) => Operation::WriteJoint,
+        b'w' => Operation::Write,
+        b's' if letter(line, 1) == b'o' => Operation::Soonest,
+        b's' => Operation::SheetMargin,
+        b'h' => Operation::Harm,
+        b'p' => Operation::Plan,
+        b'r' if letter(line, 2) == b'o' => Operation::Room,
+        b'r' => Operation::Rounds,
+        b'm' if letter(line, 3) != b'k' => Operation::Margin,
+        b'm' if is_joint(line) => Operation::MarksJoint,
+        b'm' => Operation::Marks,
+        _ => Operation::Check,
     }
-    if first == b'w' {
-        return of_write(line);
-    }
-    if first == b's' {
-        return if letter(line, 1) == b'o' {
-            Operation::Soonest
-        } else {
-            Operation::SheetMargin
-        };
-    }
-    if first == b'h' {
-        return Operation::Harm;
-    }
-    if first == b'p' {
-        return Operation::Plan;
-    }
-    if first == b'r' {
-        return of_round(line);
-    }
-    if first != b'm' {
-        return Operation::Check;
-    }
-    if letter(line, 3) == b'k' {
-        return of_marks(line);
-    }
-    Operation::Margin
 }

@@ -7,20 +7,17 @@ use Prim.Native.Nat.{ℕ, ◌+◌, ◌-◌, ◌≤◌, ◌<◌}
 use native.Mathlib.Omega.{arith}
 use native.Mathlib.Decide.{dec_lt}
 use lib.ListN.{length, get_or}
-use Rattle.theory.specs.Adjacency.{Adjacent, Rows}
+use Rattle.theory.specs.Adjacency.{Adjacent}
 use Rattle.theory.specs.Levels.{distance_to}
 use Rattle.theory.proofs.Levels.{far_inside, goal_far, far_goal, mark_in, upto_at}
 use Rattle.search.specs.Queue.{TakesAll, LeadsFrom}
 use Rattle.search.specs.Rounds.{Agrees, Searched}
 use Rattle.search.proofs.Queue.{fits_le}
 use Rattle.search.proofs.Rounds.{level_most, searched_stop, searched_marks}
-use Rattle.closed_walk.specs.Rounds.{back, Places, NoneBack, FirstBack, Found, Outcome}
+use Rattle.closed_walk.specs.Rounds.{back, NoneBack, Found, Outcome}
 
 module _ {first targets : List ℕ} {q x lo hi : ℕ} {level queue : List ℕ} (I : Searched (Adjacent first targets) q x lo hi level queue)
     (N : NoneBack first targets q queue 0 lo) where
-  pub back_places : Rows first targets (length level) → Places first targets queue hi
-  back_places R = record { nodes = length level; rows = R; room = omega (arith, fits_le I.fits, I.fits.same); below = I.fits.below }
-
   module _ (r : ℕ → ℕ → Bool) (G : Agrees (length level) r q (Adjacent first targets)) where
     abbrev S : ℕ
     S = length level
@@ -36,12 +33,13 @@ module _ {first targets : List ℕ} {q x lo hi : ℕ} {level queue : List ℕ} (
         by j u (no k) = omega arith
 
     -- a step leads back from x
-    back_is : {i : ℕ} → FirstBack first targets q queue lo hi i → i < hi → (back S r q + 1 ≡ x) × (back S r q < S)
-    back_is {i} B l =
+    back_is : LeadsFrom (Adjacent first targets) queue lo hi q → (back S r q + 1 ≡ x) × (back S r q < S)
+    back_is B =
+        let i = B.place in
         let p = get_or queue i 0 in
-        let (e, h) = upto_at S r G.inside q G.begins x (λ p. get_or level p 0) I.some (I.upto r G) p (I.fits.below i l)
-        (I.now i B.after l) in
-        let u = goal_far S r G.inside q G.begins (λ z. r z q) p h (G.to p q h (B.is l)) in
+        let (e, h) = upto_at S r G.inside q G.begins x (λ p. get_or level p 0) I.some (I.upto r G) p (I.fits.below i B.before)
+        (I.now i B.after B.before) in
+        let u = goal_far S r G.inside q G.begins (λ z. r z q) p h (G.to p q h B.is) in
         (by p e h u (dec_lt (back S r q) (distance_to S r q p)), omega arith)
       where
         by : (p : ℕ) → distance_to S r q p + 1 ≡ x → distance_to S r q p < S → back S r q ≤ distance_to S r q p → Dec (back S r q < distance_to S r q p) → back S r q + 1 ≡ x
@@ -71,18 +69,18 @@ module _ {first targets : List ℕ} {q x lo hi : ℕ} {level queue : List ℕ} (
   pub levels_none : hi ≤ lo → Outcome first targets q level queue 0
   levels_none o = inl (refl, λ r G. back_none r G o)
 
-  pub levels_found : {i : ℕ} → FirstBack first targets q queue lo hi i → i < hi → Found first targets q level queue hi
-  levels_found {i} B l =
-      let e : get_or level (get_or queue (hi - 1) 0) 0 ≡ x = I.now (hi - 1) (omega (arith, B.after)) (omega arith) in
+  pub levels_found : LeadsFrom (Adjacent first targets) queue lo hi q → Found first targets q level queue hi
+  levels_found B =
+      let e : get_or level (get_or queue (hi - 1) 0) 0 ≡ x = I.now (hi - 1) (omega (arith, B.after, B.before)) (omega (arith, B.before)) in
       record {
-        order = searched_stop I (omega (arith, B.after));
-        some = omega arith;
+        order = searched_stop I (omega (arith, B.after, B.before));
+        some = omega (arith, B.before);
         most = rw e (level_most I);
         aims = λ r G. rw e (record {
           agrees = G;
           goals = λ p h. (G.to p q h, G.from p q);
-          last = sym (back_is r G B l).0;
-          short = (back_is r G B l).1;
+          last = sym (back_is r G B).0;
+          short = (back_is r G B).1;
           bound = x;
           beyond = omega arith;
           upto = I.upto r G;
@@ -90,16 +88,16 @@ module _ {first targets : List ℕ} {q x lo hi : ℕ} {level queue : List ℕ} (
       }
 
   -- the next round
-  pub none_next : {i n : ℕ} {level' queue' : List ℕ} → FirstBack first targets q queue lo hi i → hi ≤ i
+  pub none_next : {n : ℕ} {level' queue' : List ℕ} → (LeadsFrom (Adjacent first targets) queue lo hi q → ⊥)
       → TakesAll x (LeadsFrom (Adjacent first targets) queue lo hi) level level' queue queue' hi n → NoneBack first targets q queue' 0 hi
-  none_next {i} B o A j a b t = by (dec_lt j lo)
+  none_next B A j a b t = by (dec_lt j lo)
     where
       u : Adjacent first targets (get_or queue j 0) q
       u = rw (A.takes.kept j b) at t
 
       by : Dec (j < lo) → ⊥
       by (yes k) = N j a k u
-      by (no k) = B.not j (omega arith) (omega arith) u
+      by (no k) = B (record { place = j; after = omega arith; before = b; is = u })
 
 -- which of the two ends it was
 module _ {first targets : List ℕ} {q : ℕ} {level queue : List ℕ} {n : ℕ} (O : Outcome first targets q level queue n) where

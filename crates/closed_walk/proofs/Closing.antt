@@ -6,7 +6,8 @@ use Prim.Native.Nat.{ℕ, ◌+◌, ◌-◌, ◌≤◌, ◌<◌}
 use native.Mathlib.Omega.{arith}
 use native.Mathlib.Numerals.{add-one}
 use native.Mathlib.Decide.{dec_lt}
-use lib.ListN.{length, set, take}
+use lib.ListN.{length, set, take, length-append}
+use Rattle.std.proofs.lemmas.List.{take-append-le, take_all}
 use lib.Seq.{take-suc-set}
 use lib.Dec.{eqb}
 use borrow.Author.Tests.{eqb-true}
@@ -19,23 +20,33 @@ use Rattle.theory.proofs.System.{flow_inside, closed_walk_is, is_closed_walk}
 use Rattle.theory.proofs.ClosedWalk.{closed_walk_some, closed_walk_below}
 use Rattle.theory.proofs.Return.{dist_return, greedy_return}
 use Rattle.search.specs.Rounds.{Agrees}
-use Rattle.search.specs.Flags.{Aims, FlagsOf, Steered, Follows}
-use Rattle.search.proofs.Follow.{follows_last, steered_of}
+use Rattle.search.specs.Flags.{Aims, FlagsOf, Steered}
+use Rattle.search.proofs.Follow.{steered_of}
 use Rattle.closed_walk.specs.Closes.{Closes}
 use Rattle.closed_walk.specs.Rounds.{back}
 
 -- at the last node, and the step back
-pub trace_end : {first targets level path : List ℕ} {q K i p : ℕ} (steps : ℕ) → steps ≡ K + 1 → steps ≤ length level → length path ≡ length level
-    → Follows (Adjacent first targets) q K level path i p → i ≡ K
-    → (r : ℕ → ℕ → Bool) → Steered (Adjacent first targets) q K level r (λ p. r p q)
-    → take steps (set path i q) ≡ greedy (length level) r (λ x. eqb x q) steps q
-trace_end {level = level} {path = path} {q = q} {K = K} steps d few long F e r T =
+pub trace_end : {first targets level : List ℕ} {q K : ℕ} (path : List ℕ) (steps : ℕ) → steps ≡ K + 1 → steps ≤ length level → K < length path
+    → (r : ℕ → ℕ → Bool) → take K path ≡ greedy (length level) r (λ p. r p q) K q
+    → Steered (Adjacent first targets) q K level r (λ p. r p q)
+    → take steps (set path K q) ≡ greedy (length level) r (λ x. eqb x q) steps q
+trace_end {level = level} {q = q} {K = K} path steps d few long r F T =
     let S = length level in
     let x = dist-exact S r (λ x. r x q) T.agrees.inside q (omega (arith, T.few)) in
-    rw (d, e, add-one K)
+    rw (d, add-one K)
     (take-suc-set path K q (omega arith)
-    ∙ (ap (λ (m : List ℕ). m ++ (q ∷ [])) (follows_last (omega arith) F (omega arith) r (λ p. r p q) T)
+    ∙ (ap (λ (m : List ℕ). m ++ (q ∷ [])) F
     ∙ sym (greedy_return S r T.agrees.inside q K q (rw (← T.few) at x))))
+
+-- with the steps before it in the first places
+pub walk_end : {first targets level : List ℕ} {q : ℕ} (front back : List ℕ) (n K steps : ℕ) → n ≡ K → length front ≡ n → steps ≡ K + 1
+    → steps ≤ length level → 0 < length back → (r : ℕ → ℕ → Bool)
+    → (Steered (Adjacent first targets) q n level r (λ p. r p q) → front ≡ greedy (length level) r (λ p. r p q) n q)
+    → Steered (Adjacent first targets) q K level r (λ p. r p q)
+    → take steps (set (front ++ back) K q) ≡ greedy (length level) r (λ x. eqb x q) steps q
+walk_end front back n K steps e l d few some r W T =
+    trace_end (front ++ back) steps d few (simp length-append (omega arith)) r
+    (take-append-le K front back (omega arith) ∙ (take_all K front (omega arith) ∙ (rw e at W) T)) T
 
 -- ---- what is found
 

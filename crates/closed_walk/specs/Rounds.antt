@@ -1,7 +1,7 @@
 -- The search by rounds from a node q. It ends at the first level from which a step leads back to q.
 use Rattle.std.specs.Prelude.{◌≡◌, Bool, ◌⊎◌, List, ℕ, ◌-◌, ◌≤◌, ◌<◌, length, get_or}
 use Rattle.theory.specs.Walk.{dist}
-use Rattle.theory.specs.Adjacency.{Adjacent, Rows}
+use Rattle.theory.specs.Adjacency.{Adjacent}
 use Rattle.search.specs.Queue.{ByLevel}
 use Rattle.search.specs.Rounds.{Agrees}
 use Rattle.search.specs.Flags.{Aims}
@@ -10,23 +10,9 @@ use Rattle.search.specs.Flags.{Aims}
 abbrev pub back : ℕ → (ℕ → ℕ → Bool) → ℕ → ℕ
 back S r q = dist S r (λ x. r x q) q
 
--- the places of the queue below hi hold nodes
-pub record Places (first targets queue : List ℕ) (hi : ℕ) : Type 0 where
-  pub nodes : ℕ
-  pub rows : Rows first targets nodes
-  pub room : hi ≤ length queue
-  pub below : (i : ℕ) → i < hi → get_or queue i 0 < nodes
-
 -- no node at these places has a step to q
 abbrev pub NoneBack : List ℕ → List ℕ → ℕ → List ℕ → ℕ → ℕ → Type 0
 NoneBack first targets q queue lo hi = (j : ℕ) → lo ≤ j → j < hi → Adjacent first targets (get_or queue j 0) q → ⊥
-
--- i: the first place from lo on, below hi, whose node has a step to q; or hi
-pub record FirstBack (first targets : List ℕ) (q : ℕ) (queue : List ℕ) (lo hi i : ℕ) : Type 0 where
-  pub after : lo ≤ i
-  pub within : i ≤ hi
-  pub not : NoneBack first targets q queue lo i
-  pub is : i < hi → Adjacent first targets (get_or queue i 0) q
 
 -- the search has ended at the level from which a step leads back: the nodes up to it are at the places below n
 pub record Found (first targets : List ℕ) (q : ℕ) (level queue : List ℕ) (n : ℕ) : Type 0 where

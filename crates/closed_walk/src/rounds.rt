@@ -1,88 +1,53 @@
 // Rounds from q by a queue, up to the first level from which a step leads back to q.
 
-ghost use Rattle.std.specs.Prelude.{◌≡◌, ◌≤◌, ◌<◌, length};
+ghost use Rattle.std.specs.Prelude.{◌≡◌, true, ◌↔◌, ◌≤◌, ◌<◌, length, unwrap_or, IfSome};
 ghost use Rattle.limits.specs.Limits.{max_states};
-ghost use Rattle.theory.specs.Adjacency.{Adjacent, Rows};
-ghost use Rattle.search.specs.Queue.{Queued, TakesAll, LeadsFrom};
-ghost use Rattle.closed_walk.specs.Rounds.{Places, FirstBack, Outcome};
+ghost use Rattle.theory.specs.Adjacency.{Adjacent};
+ghost use Rattle.search.specs.Queue.{LeadsFrom};
+ghost use Rattle.search.specs.Held.{InOrder};
+ghost use Rattle.closed_walk.specs.Rounds.{Outcome};
 
 use limits::Word;
-use limits::cast::from_word;
-use limits::zero::clear;
-use search::{leads_to, take_row};
+use search::{Reached, Steps, round};
 
-// A round: the nodes at level x are the places lo .. hi of the queue.
-fn round(
-    first: &[u32],
-    targets: &[Word],
-    level: &mut [Word],
-    queue: &mut [Word],
-    x: Word,
-    lo: usize,
-    hi: usize,
-) -> usize
-    requires { (x ≤ max_states) × (lo ≤ hi) × Rows first.now targets.now (length level.old) × Queued level.old queue.old hi }
-    ensures { TakesAll x (LeadsFrom (Adjacent first.now targets.now) queue.old lo hi)
-        level.old level.new queue.old queue.new hi result }
+// Whether a node of the queue from place lo on has a step to q.
+fn leads_back(steps: Steps, reached: &Reached, lo: usize, q: usize) -> bool
+    requires { (length reached.now.level.now ≡ steps.nodes) × InOrder reached.now }
+    ensures { (result ≡ true) ↔ LeadsFrom (Adjacent steps.entry.first.now steps.entry.targets.now) reached.now.queue.now lo reached.now.end q }
 {
-    let mut n = hi;
-    let mut i = lo;
-    while i < hi {
-        let p = from_word(queue[i]);
-        n = take_row(first, targets, level, queue, x, p, n);
-        i += 1;
-    }
-    n
-}
-
-// The first place from lo up to hi whose node has a step to q; or hi.
-fn first_back(
-    first: &[u32],
-    targets: &[Word],
-    queue: &[Word],
-    q: usize,
-    lo: usize,
-    hi: usize,
-) -> usize
-    requires { (lo ≤ hi) × Places first.now targets.now queue.now hi }
-    ensures { FirstBack first.now targets.now q queue.now lo hi result }
-{
-    let mut i = lo;
-    while i < hi {
-        if leads_to(first, targets, from_word(queue[i]), q) {
-            return i;
+    for i in lo..reached.end {
+        if steps.leads_to(usize::from(reached.queue[i]), q) {
+            return true;
         }
-        i += 1;
     }
-    i
+    false
 }
 
-// The queue's end once a node of the last level has a step to q; 0 if no node that is reached has one.
-pub fn levels(
-    first: &[u32],
-    targets: &[Word],
-    q: usize,
-    level: &mut [Word],
-    queue: &mut [Word],
-) -> usize
-    requires { (q < length level.old) × (length level.old ≤ max_states) × Rows first.now targets.now (length level.old)
+// The queue's end once a node of the last level has a step to q, if a node that is reached has one.
+pub fn levels(steps: Steps, q: usize, level: &mut [Word], queue: &mut [Word]) -> Option<usize>
+    requires { (q < length level.old) × (length level.old ≤ max_states) × (length level.old ≡ steps.nodes)
         × (length queue.old ≡ length level.old) }
-    ensures { Outcome first.now targets.now q level.new queue.new result }
+    ensures some { IfSome result (λ n. 0 < n) }
+    ensures outcome { Outcome steps.entry.first.now steps.entry.targets.now q level.new queue.new (unwrap_or result 0) }
 {
-    clear(level);
-    level[q] = 1;
-    queue[0] = q as Word;
+    level.fill(0);
+    let mut reached = Reached {
+        level,
+        queue,
+        end: 0,
+    };
+    reached.take(0, q);
     let mut x: Word = 1;
     let mut lo = 0;
-    let mut hi = 1;
-    while lo < hi {
-        if first_back(first, targets, queue, q, lo, hi) < hi {
-            return hi;
+    // A while: a round makes the queue longer.
+    while lo < reached.end {
+        let hi = reached.end;
+        if leads_back(steps, &reached, lo, q) {
+            return Some(hi);
         }
-        let n = round(first, targets, level, queue, x, lo, hi);
+        round(&steps, &mut [], &mut reached, x, lo);
         x += 1;
         lo = hi;
-        hi = n;
     }
-    0
+    None
 }

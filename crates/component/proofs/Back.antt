@@ -10,8 +10,8 @@ use Rattle.component.specs.Graph.{graph_of}
 use Rattle.component.specs.Stack.{at, Open, Explored, Stack}
 use Rattle.component.specs.Scan.{Low, Merged}
 use Rattle.component.specs.Pass.{Entered, Pass, NoNew, Moved, Popped}
-use Rattle.component.proofs.Graph.{place_in}
-use Rattle.component.proofs.Pass.{into, path_node, cursor_kept}
+use Rattle.component.proofs.GraphLaws.{place_in}
+use Rattle.component.proofs.PassLaws.{into, path_node, cursor_kept}
 use Rattle.component.proofs.Stack as laws
 
 module _ {first targets mark stack path start : List ℕ} {n top segs depth cur : ℕ}

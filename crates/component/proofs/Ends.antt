@@ -1,11 +1,11 @@
 -- The first state of the pass, the root of a search, the last state and the marks that it gives.
-use mathlib.Core.Path.{◌≡◌, refl, sym, ap, ◌∙◌}
+use mathlib.Core.Path.{◌≡◌, refl}
 use mathlib.Core.Logic.{◌⊎◌, inl, inr, ⊎_elim}
 use mathlib.Core.List.{List}
 use Prim.Native.Nat.{ℕ, ◌+◌, ◌-◌, ◌≤◌, ◌<◌}
 use native.Mathlib.Omega.{arith}
 use lib.ListN.{length, set}
-use lib.Seq.{get_or-set_same}
+use Rattle.std.proofs.lemmas.Bool.{cases_lt}
 use Rattle.theory.specs.System.{on_closed_walk}
 use Rattle.theory.specs.Height.{height}
 use Rattle.theory.proofs.Below.{bit-le, bool_ext}
@@ -16,9 +16,9 @@ use Rattle.component.specs.Marks.{GraphLists, Marks}
 use Rattle.component.specs.Graph.{graph_of}
 use Rattle.component.specs.Stack.{at}
 use Rattle.component.specs.Scan.{height_in}
-use Rattle.component.specs.Pass.{Pass, NoNew, Moved}
-use Rattle.component.proofs.Graph.{flow_to, flow_from}
-use Rattle.component.proofs.Pass.{set_new, empty, pass_push}
+use Rattle.component.specs.Pass.{Pass, Moved}
+use Rattle.component.proofs.GraphLaws.{flow_to, flow_from}
+use Rattle.component.proofs.PassLaws.{empty, pass_push}
 use Rattle.component.proofs.Stack as laws
 
 -- with all nodes new
@@ -79,23 +79,17 @@ module _ {first targets mark stack path start : List ℕ} {n : ℕ} (P : Pass fi
   pub root_pushed : Pass first targets n (set mark root 1) (set stack 0 root) (set path 0 (at first root)) (set start 0 0) 1 1 1 0
   root_pushed = pass_push P root l z (λ p k. absurd (omega arith)) path P.paths (λ i k. refl) (λ i e. absurd (omega arith))
 
-  pub root_kept : (mark₁ mark₂ : List ℕ) → mark₁ ≡ set mark root 1 → NoNew n mark₁ mark₂ → NoNew n mark mark₂ × (at mark₂ root ≡ 0 → ⊥)
-  root_kept mark₁ mark₂ e f = (
-    λ s k o. set_new mark root 1 n z s k (sym (ap (λ x. at x s) e) ∙ f s k o),
-    λ o. omega (arith, ap (λ x. at x root) e, f root l o, get_or-set_same mark root 1 0 (omega (arith, P.marks))),
-  )
-
 -- ---- the last state: the stack is empty and no node is new, so all are finished
 
 module _ {first targets mark stack path start : List ℕ} {n : ℕ} (P : Pass first targets n mark stack path start 0 0 0 0)
     (z : (s : ℕ) → s < n → at mark s ≡ 0 → ⊥) where
   pub all_done : (s : ℕ) → s < n → n < at mark s
-  all_done s l = go (laws.lt_or_ge n (at mark s))
+  all_done s l = go (cases_lt n (at mark s))
     where
       go : (n < at mark s) ⊎ (at mark s ≤ n) → n < at mark s
       go (inl d) = d
       go (inr d) =
-          let k : 0 < at mark s = ⊎_elim (λ x. x) (λ x. absurd (z s l (omega arith))) (laws.lt_or_ge 0 (at mark s)) in
+          let k : 0 < at mark s = ⊎_elim (λ x. x) (λ x. absurd (z s l (omega arith))) (cases_lt 0 (at mark s)) in
           absurd (omega (arith, (P.state.held s (at mark s - 1) l (omega arith) (omega arith)).0))
 
   -- in every system that the lists hold the marks are right

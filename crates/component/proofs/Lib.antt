@@ -1,6 +1,6 @@
-pub mod Graph
+pub mod GraphLaws
 pub mod Stack
 pub mod Scans
-pub mod Pass
+pub mod PassLaws
 pub mod Back
 pub mod Ends

@@ -8,6 +8,7 @@ use native.Mathlib.Decide.{ℕ_discrete, dec_lt}
 use native.Mathlib.Omega.{arith}
 use lib.Dec.{ltb, eqb}
 use borrow.Author.Tests.{eqb-true, eq-eqb}
+use Rattle.std.proofs.lemmas.Bool.{cases_lt}
 use Rattle.theory.specs.Below.{bit}
 use Rattle.theory.specs.Walk.{stop}
 use Rattle.theory.specs.System.{System, Reaches, OnClosedWalkIn}
@@ -16,13 +17,6 @@ use Rattle.theory.proofs.Below.{count-le, count_mono, count_strict, false_unless
 use Rattle.theory.proofs.Component.{reach_join, reach_one, Component, closed_in, in_closed, closed_all, component_height}
 use Rattle.component.specs.Stack.{news, Above, Open, Explored, Finished, Stack}
 use Rattle.component.specs.Scan.{Low, Merged, height_in, Most, Painted}
-
-pub lt_or_ge : (a b : ℕ) → (a < b) ⊎ (b ≤ a)
-lt_or_ge a b = go (dec_lt a b)
-  where
-    go : Dec (a < b) → (a < b) ⊎ (b ≤ a)
-    go (yes l) = inl l
-    go (no n) = inr (omega arith)
 
 -- ---- counting the new nodes
 
@@ -251,21 +245,21 @@ module _ {Y : System} {S : ℕ} {m st pa sg : ℕ → ℕ} {top segs depth : ℕ
     merged_joined p q l n a = go (dec_lt segs' segs)
       where
         same : (k : ℕ) → k < segs → sg k ≤ w → k < segs'
-        same k j h = ⊎_elim (λ x. x) (λ x. absurd (omega (arith, M.over k x j))) (lt_or_ge k segs')
+        same k j h = ⊎_elim (λ x. x) (λ x. absurd (omega (arith, M.over k x j))) (cases_lt k segs')
 
         go : Dec (segs' < segs) → Reaches Y (st p) (st q)
         go (no x) = I.joined p q l n (λ k j h. a k (omega arith) h)
         go (yes x) =
             ⊎_elim
             (λ (y : p < sg segs').
-            I.joined p q l n (λ k j h. ⊎_elim (λ z. a k z h) (λ z. absurd (omega (arith, sg_mono segs' k z j))) (lt_or_ge k segs')))
+            I.joined p q l n (λ k j h. ⊎_elim (λ z. a k z h) (λ z. absurd (omega (arith, sg_mono segs' k z j))) (cases_lt k segs')))
             (λ (y : sg segs' ≤ p).
             let z : w < sg segs' = M.over segs' (omega arith) x in
             let u : w < top = omega (arith, sg_under segs' x, cur_on) in
             reach_join Y (to_cur p l)
             (reach_join Y (reach_one Y (to_low u))
             (I.joined w q u n (λ k j h. a k (same k j h) (omega (arith, I.climbs k segs' (same k j h) x))))))
-            (lt_or_ge p (sg segs'))
+            (cases_lt p (sg segs'))
 
     merged_explored : (p : ℕ) → Explored Y S m st sg top segs p → Explored Y S m st sg top segs' p
     merged_explored p x t e = ⊎_elim (λ d. inl d) (λ (q, l, o, a). inr (q, l, o, above_less p q a)) (x t e)
@@ -289,7 +283,7 @@ module _ {Y : System} {S : ℕ} {m st pa sg : ℕ → ℕ} {top segs depth : ℕ
         }
 
     pub merge_explored : ((t : ℕ) → Y.flow (st cur) t ≡ true → m t ≡ 0 → ⊥) → Explored Y S m st sg top segs' cur
-    merge_explored old t e = go (lt_or_ge S (m t))
+    merge_explored old t e = go (cases_lt S (m t))
       where
         go : (S < m t) ⊎ (m t ≤ S) → (S < m t) ⊎ ((q : ℕ) × (q < top) × (st q ≡ t) × Above sg segs' cur q)
         go (inl d) = inl d
@@ -400,7 +394,7 @@ module _ {Y : System} {S : ℕ} {m st pa sg : ℕ → ℕ} {top segs depth : ℕ
       closed_cur o =
           ⊎_elim (ltb↔ w top).1
           (λ k. absurd (in_closed component (st cur) cur_in (λ t g (p, c, n, e). omega (arith, L.least t p g (ap m (sym e) ∙ I.mark p n))) o))
-          (lt_or_ge w top)
+          (cases_lt w top)
 
       -- and then all of the segment does
       seg_closed : (s : ℕ) → In s → (ltb w top ≡ true) ↔ OnClosedWalkIn Y s
@@ -416,7 +410,7 @@ module _ {Y : System} {S : ℕ} {m st pa sg : ℕ → ℕ} {top segs depth : ℕ
       -- a node is of the segment, and has its new mark, or has its old one
       kinds : (s : ℕ) → s < S → (In s × (m' s ≡ suc S + (2 * h + bit (ltb w top)))) ⊎ ((In s → ⊥) × (m' s ≡ m s))
       unfolding In
-      kinds s l = ⊎_elim first second (lt_or_ge S (m s))
+      kinds s l = ⊎_elim first second (cases_lt S (m s))
         where
           R : Type 0
           R = (In s × (m' s ≡ suc S + (2 * h + bit (ltb w top)))) ⊎ ((In s → ⊥) × (m' s ≡ m s))
@@ -428,7 +422,7 @@ module _ {Y : System} {S : ℕ} {m st pa sg : ℕ → ℕ} {top segs depth : ℕ
           first d = old (λ p c n e. omega (arith, I.room))
 
           second : m s ≤ S → R
-          second d = ⊎_elim third (λ c. old (λ p n k e. omega arith)) (lt_or_ge cur (m s))
+          second d = ⊎_elim third (λ c. old (λ p n k e. omega arith)) (cases_lt cur (m s))
             where
               third : cur < m s → R
               third c =
@@ -458,7 +452,7 @@ module _ {Y : System} {S : ℕ} {m st pa sg : ℕ → ℕ} {top segs depth : ℕ
           go : (In s → ⊥) × (m' s ≡ m s) → (p < cur) × (st p ≡ s)
           go (f, o) =
               let (k, q) = I.held s p l n (omega arith) in
-              (⊎_elim (λ x. x) (λ x. absurd (f (p, x, k, q))) (lt_or_ge p cur), q)
+              (⊎_elim (λ x. x) (λ x. absurd (f (p, x, k, q))) (cases_lt p cur), q)
 
       popped_starts : (k : ℕ) → k < segs - 1 → Open pa (depth - 1) (sg k)
       popped_starts k l = go (I.starts k (omega arith))
@@ -474,7 +468,7 @@ module _ {Y : System} {S : ℕ} {m st pa sg : ℕ → ℕ} {top segs depth : ℕ
       popped_joined p q l n a = I.joined p q (omega (arith, cur_on)) (omega (arith, cur_on)) go
         where
           go : Above sg segs p q
-          go k j c = ⊎_elim (λ x. a k x c) (λ x. absurd (omega (arith, eq x))) (lt_or_ge k (segs - 1))
+          go k j c = ⊎_elim (λ x. a k x c) (λ x. absurd (omega (arith, eq x))) (cases_lt k (segs - 1))
             where
               eq : segs - 1 ≤ k → sg k ≡ cur
               eq x = let y : k ≡ segs - 1 = omega arith in ap sg y ∙ start
@@ -496,7 +490,7 @@ module _ {Y : System} {S : ℕ} {m st pa sg : ℕ → ℕ} {top segs depth : ℕ
               on (q, n, o, a) =
                   ⊎_elim (λ y. inr (q, y, o, λ k j c. a k (omega arith) c))
                   (λ y. inl (omega (arith, F.put q y n, ap m' o)))
-                  (lt_or_ge q cur)
+                  (cases_lt q cur)
 
       popped_done : (s : ℕ) → s < S → S < m' s → Finished Y S m' (cur + news m' S) s
       unfolding In Done

@@ -3,3 +3,4 @@ pub mod Graph
 pub mod Stack
 pub mod Scan
 pub mod Pass
+pub mod Held

@@ -1,6 +1,11 @@
 -- What the loops over the successors of a node and over the places of the stack find.
-use Rattle.std.specs.Prelude.{◌≡◌, true, ◌⊎◌, List, ℕ, suc, ◌-◌, ◌/◌, ◌≤◌, ◌<◌, get_or}
+use Rattle.std.specs.Prelude.{◌≡◌, true, ◌⊎◌, List, ℕ, suc, ◌-◌, ◌/◌, ◌≤◌, ◌<◌, length, get_or}
 use Rattle.theory.specs.System.{System}
+
+-- row: the successors of v, and nothing else
+pub record RowOf (Y : System) (v : ℕ) (row : List ℕ) : Type 0 where
+  pub only : (k : ℕ) → k < length row → Y.flow v (get_or row k 0) ≡ true
+  pub all : (t : ℕ) → Y.flow v t ≡ true → (k : ℕ) × (k < length row) × (get_or row k 0 ≡ t)
 
 -- the successors of v at the places from `first v` up to i are not new
 pub record Cursor (first targets : List ℕ) (m : ℕ → ℕ) (v i : ℕ) : Type 0 where

@@ -3,43 +3,38 @@
 // is a component.
 #![tactic(auto)]
 
-ghost use Rattle.std.specs.Prelude.{◌≡◌, true, ℕ, suc, ◌+◌, ◌-◌, ◌≤◌, ◌<◌, length, set, ltb};
-ghost use Rattle.theory.specs.Below.{bit};
-ghost use Rattle.limits.specs.Limits.{max_states, max_steps};
+ghost use Rattle.std.specs.Prelude.{◌≡◌, true, ℕ, suc, ◌+◌, ◌-◌, ◌≤◌, ◌<◌, length, unwrap_or, IfSome};
+ghost use Rattle.limits.specs.Limits.{max_states};
 ghost use Rattle.component.specs.Marks.{GraphLists, Marks};
 ghost use Rattle.component.specs.Graph.{graph_of};
 ghost use Rattle.component.specs.Stack.{at as value};
-ghost use Rattle.component.specs.Scan.{Cursor, NewPlace, LowAt, Low, Merged, height_in, MostAt, MostFrom, Most, Painted};
-ghost use Rattle.component.specs.Pass.{Entered, Pass, NoNew, Moved, Popped};
+ghost use Rattle.component.specs.Scan.{RowOf, Cursor, NewPlace, LowAt, Low, Merged, height_in, MostAt, MostFrom, Most, Painted};
+ghost use Rattle.component.specs.Pass.{Entered, NoNew, Moved, Popped};
 
 use limits::Word;
-use limits::zero::clear;
 
-// How far the stack, the segments and the path reach, and the place of the current node, the path's last, on the stack.
+// The steps between the nodes below `nodes`: those of node v stand in targets, from place first[v] up to place first[v + 1].
 #[derive(Clone, Copy)]
-pub struct Tops {
-    pub top: usize,
-    pub segs: usize,
-    pub depth: usize,
-    pub cur: usize,
+struct Graph<'a> {
+    first: &'a [u32],
+    targets: &'a [Word],
+    nodes: usize,
+    ghost lists: { GraphLists first.now targets.now nodes },
 }
 
-// The place of the first new successor of v at `from` or later, or the end of their places.
-fn new_place(first: &[u32], targets: &[Word], mark: &[Word], v: usize, from: usize) -> usize
-    requires graph_lists { GraphLists first.now targets.now (length mark.now) × (v < length mark.now) }
-    requires cursor { Cursor first.now targets.now (value mark.now) v from }
-    ensures { NewPlace first.now targets.now (value mark.now) v result }
-{
-    let end = first[v + 1] as usize;
-    let mut i = from;
-    while i < end {
-        let t = targets[i] as usize;
-        if mark[t] == 0 {
-            return i;
-        }
-        i += 1;
+impl<'a> Graph<'a> {
+    ghost use Rattle.component.specs.Held.{graph_in};
+
+    // The successors of v.
+    fn row(&self, v: usize) -> &'a [Word]
+        requires { v < self.now.nodes }
+        ensures row { RowOf (graph_in self.now) v result.now }
+        ensures below { (k : ℕ) → k < length result.now → value result.now k < self.now.nodes }
+    {
+        let from = self.first[v] as usize;
+        let end = self.first[v + 1] as usize;
+        &self.targets[from..end]
     }
-    i
 }
 
 // The lower of low and the place of t on the stack.
@@ -47,40 +42,8 @@ fn low_at(mark: &[Word], t: usize, low: usize) -> usize
     requires { t < length mark.now }
     ensures { LowAt (value mark.now) t low result }
 {
-    let x = mark[t] as usize;
-    if 0 < x {
-        if x <= low {
-            return x - 1;
-        }
-    }
-    low
-}
-
-// The lowest place on the stack of a successor of v, or top.
-fn low_succ(first: &[u32], targets: &[Word], mark: &[Word], v: usize, top: usize) -> usize
-    requires { GraphLists first.now targets.now (length mark.now) × (v < length mark.now) }
-    ensures { Low (graph_of first.now targets.now (length mark.now)) (value mark.now) v top result }
-{
-    let end = first[v + 1] as usize;
-    let mut low = top;
-    let mut i = first[v] as usize;
-    while i < end {
-        low = low_at(mark, targets[i] as usize, low);
-        i += 1;
-    }
-    low
-}
-
-// How many segments are left when those that start above w join that of w.
-fn merged(start: &[Word], segs: usize, w: usize) -> usize
-    requires { (0 < segs) × (segs ≤ length start.now) × (value start.now 0 ≡ 0) }
-    ensures { Merged (value start.now) segs w result }
-{
-    let mut r = segs;
-    while w < start[r - 1] as usize {
-        r -= 1;
-    }
-    r
+    let x = usize::from(mark[t]);
+    if 0 < x { low.min(x - 1) } else { low }
 }
 
 // The larger of h and one more than the height of t, if t is finished.
@@ -88,322 +51,11 @@ fn height_at(mark: &[Word], n: usize, t: usize, h: usize) -> usize
     requires { (t < length mark.now) × (n ≤ max_states) }
     ensures { MostAt (value mark.now) n t h result }
 {
-    let x = mark[t] as usize;
+    let x = usize::from(mark[t]);
     if n < x {
-        let g = (x - (n + 1)) / 2;
-        if h <= g {
-            return g + 1;
-        }
-    }
-    h
-}
-
-// The same over all successors of v.
-fn height_from(
-    first: &[u32],
-    targets: &[Word],
-    mark: &[Word],
-    n: usize,
-    v: usize,
-    h: usize,
-) -> usize
-    requires { GraphLists first.now targets.now n × (length mark.now ≡ n) × (v < n) }
-    ensures { MostFrom (graph_of first.now targets.now n) n (value mark.now) v h result }
-{
-    let end = first[v + 1] as usize;
-    let mut most = h;
-    let mut i = first[v] as usize;
-    while i < end {
-        most = height_at(mark, n, targets[i] as usize, most);
-        i += 1;
-    }
-    most
-}
-
-// The same over the nodes at the places a .. top of the stack.
-fn height_of(
-    first: &[u32],
-    targets: &[Word],
-    mark: &[Word],
-    stack: &[Word],
-    n: usize,
-    a: usize,
-    top: usize,
-) -> usize
-    requires graph_lists { GraphLists first.now targets.now n × (length mark.now ≡ n) }
-    requires a_le_top { (a ≤ top) × (top ≤ length stack.now) × ((p : ℕ) → p < top → value stack.now p < n) }
-    ensures { Most (graph_of first.now targets.now n) n (value mark.now)
-        (value stack.now) a top result }
-{
-    let mut most = 0;
-    let mut p = a;
-    while p < top {
-        most = height_from(first, targets, mark, n, stack[p] as usize, most);
-        p += 1;
-    }
-    most
-}
-
-// x as the mark of the nodes at the places a .. top of the stack.
-fn fill(mark: &mut [Word], stack: &[Word], a: usize, top: usize, x: Word)
-    requires { (a ≤ top) × (top ≤ length stack.now) × ((p : ℕ) → p < top → value stack.now p < length mark.old) }
-    ensures { Painted (value mark.old) (value mark.new) (value stack.now) a top x }
-{
-    let mut p = a;
-    while p < top {
-        let s = stack[p] as usize;
-        mark[s] = x;
-        p += 1;
-    }
-}
-
-// t on the stack and on the path, as a segment of its own, none of its successors passed.
-fn push(
-    first: &[u32],
-    mark: &mut [Word],
-    stack: &mut [Word],
-    path: &mut [Word],
-    start: &mut [Word],
-    at: Tops,
-    t: usize,
-) -> Tops
-    requires t_in_bounds { (t < length mark.old) × (at.top < length stack.old) × (at.depth < length path.old) × (at.segs < length start.old) }
-    requires top_lt_max_states { (at.top < max_states) × (t < max_states) × (t < length first.now) × (value first.now t ≤ max_steps) }
-    ensures top_value { (result.top ≡ at.top + 1) × (result.segs ≡ at.segs + 1) × (result.depth ≡ at.depth + 1) × (result.cur ≡ at.top) }
-    ensures mark_after { (mark.new ≡ set mark.old t (at.top + 1))
-        × (stack.new ≡ set stack.old at.top t)
-        × (path.new ≡ set path.old at.depth (value first.now t))
-        × (start.new ≡ set start.old at.segs at.top) }
-{
-    let top = at.top;
-    let segs = at.segs;
-    let depth = at.depth;
-    mark[t] = (top + 1) as Word;
-    stack[top] = t as Word;
-    path[depth] = first[t] as Word;
-    start[segs] = top as Word;
-    Tops {
-        top: top + 1,
-        segs: segs + 1,
-        depth: depth + 1,
-        cur: top,
-    }
-}
-
-// 1 where a successor of the top segment's first node is on the stack.
-fn flag(w: usize, top: usize) -> usize
-    ensures { (result ≡ bit (ltb w top)) × (result ≤ 1) }
-{
-    if w < top { 1 } else { 0 }
-}
-
-// The top segment, from the current node, finished; w is the lowest place on the stack of a successor of the current node, and before is the
-// place of the node before it on the path.
-fn pop(
-    first: &[u32],
-    targets: &[Word],
-    mark: &mut [Word],
-    stack: &[Word],
-    n: usize,
-    at: Tops,
-    w: usize,
-    before: usize,
-) -> Tops
-    requires graph_lists { GraphLists first.now targets.now n × (length mark.old ≡ n) × (length stack.now ≡ n) }
-    requires cur_le_top { (at.cur ≤ at.top) × (at.top ≤ n) × (0 < at.segs) × (0 < at.depth) }
-    requires by_index { (p : ℕ) → p < at.top → value stack.now p < n }
-    requires by_index_2 { (t : ℕ) → t < n → n < value mark.old t → height_in n (value mark.old t) < n }
-    ensures top_value { (result.top ≡ at.cur) × (result.segs ≡ at.segs - 1) × (result.depth ≡ at.depth - 1) × (result.cur ≡ before) }
-    ensures popped { Popped (graph_of first.now targets.now n) n (value mark.old) (value mark.new)
-        (value stack.now) at.cur at.top w }
-{
-    let top = at.top;
-    let h = height_of(first, targets, mark, stack, n, at.cur, top);
-    let x = n + 1 + (2 * h + flag(w, top));
-    fill(mark, stack, at.cur, top, x as Word);
-    Tops {
-        top: at.cur,
-        segs: at.segs - 1,
-        depth: at.depth - 1,
-        cur: before,
-    }
-}
-
-// The place on the stack of the node before the last of the path: the first stands at place 0, each other is the successor that was passed last.
-fn place_before(targets: &[Word], mark: &[Word], path: &[Word], last: usize) -> usize
-    requires { (last ≤ length path.now) × ((i : ℕ) → i + 2 ≡ last → Entered targets.now mark.now path.now i) }
-    ensures value { last < 2 → result ≡ 0 }
-    ensures by_index { (i : ℕ) → i + 2 ≡ last
-        → suc result ≡ value mark.now (value targets.now (value path.now i - 1)) }
-{
-    if last < 2 {
-        return 0;
-    }
-    let i = path[last - 2] as usize;
-    let t = targets[i - 1] as usize;
-    mark[t] as usize - 1
-}
-
-// Back from the current node, which has no new successor.
-fn retreat(
-    first: &[u32],
-    targets: &[Word],
-    mark: &mut [Word],
-    stack: &[Word],
-    path: &[Word],
-    start: &[Word],
-    n: usize,
-    at: Tops,
-) -> Tops
-    requires pass { Pass first.now targets.now n mark.old stack.now path.now start.now at.top at.segs at.depth at.cur }
-    requires depth_nonzero { (0 < at.depth)
-        × ((t : ℕ) → (graph_of first.now targets.now n).flow (value stack.now at.cur) t ≡ true → value mark.old t ≡ 0 → ⊥) }
-    ensures pass_2 { Pass first.now targets.now n mark.new stack.now path.now
-        start.now result.top result.segs result.depth result.cur }
-    ensures moved { Moved n mark.old mark.new at.depth result.depth }
-{
-    let last = at.depth - 1;
-    let cur = at.cur;
-    let w = low_succ(first, targets, mark, stack[cur] as usize, at.top);
-    let segs = merged(start, at.segs, w);
-    let before = place_before(targets, mark, path, last);
-    if start[segs - 1] as usize == cur {
-        let all = Tops {
-            top: at.top,
-            segs,
-            depth: at.depth,
-            cur,
-        };
-        pop(first, targets, mark, stack, n, all, w, before)
+        h.max((x - (n + 1)) / 2 + 1)
     } else {
-        Tops {
-            top: at.top,
-            segs,
-            depth: last,
-            cur: before,
-        }
-    }
-}
-
-// One step of the pass: on to a new node, or back.
-fn advance(
-    first: &[u32],
-    targets: &[Word],
-    mark: &mut [Word],
-    stack: &mut [Word],
-    path: &mut [Word],
-    start: &mut [Word],
-    n: usize,
-    at: Tops,
-) -> Tops
-    requires pass { Pass first.now targets.now n mark.old stack.old path.old start.old at.top at.segs at.depth at.cur }
-    requires depth_nonzero { 0 < at.depth }
-    ensures pass_2 { Pass first.now targets.now n mark.new stack.new path.new
-        start.new result.top result.segs result.depth result.cur }
-    ensures moved { Moved n mark.old mark.new at.depth result.depth }
-{
-    let last = at.depth - 1;
-    let cur = at.cur;
-    let v = stack[cur] as usize;
-    let i = new_place(first, targets, mark, v, path[last] as usize);
-    if i < first[v + 1] as usize {
-        path[last] = (i + 1) as Word;
-        push(first, mark, stack, path, start, at, targets[i] as usize)
-    } else {
-        retreat(first, targets, mark, stack, path, start, n, at)
-    }
-}
-
-// Steps until the path is empty.
-fn drain(
-    first: &[u32],
-    targets: &[Word],
-    mark: &mut [Word],
-    stack: &mut [Word],
-    path: &mut [Word],
-    start: &mut [Word],
-    n: usize,
-    from: Tops,
-)
-    requires { Pass first.now targets.now n mark.old stack.old path.old start.old from.top from.segs from.depth from.cur }
-    ensures pass { Pass first.now targets.now n mark.new stack.new path.new
-        start.new 0 0 0 0 }
-    ensures no_new { NoNew n mark.old mark.new }
-{
-    let mut at = from;
-    while 0 < at.depth {
-        at = advance(first, targets, mark, stack, path, start, n, at);
-    }
-}
-
-// From a new node to all that it reaches.
-fn explore(
-    first: &[u32],
-    targets: &[Word],
-    mark: &mut [Word],
-    stack: &mut [Word],
-    path: &mut [Word],
-    start: &mut [Word],
-    n: usize,
-    root: usize,
-)
-    requires pass { Pass first.now targets.now n mark.old stack.old path.old start.old 0 0 0 0 }
-    requires root_lt_n { (root < n) × (value mark.old root ≡ 0) }
-    ensures pass_2 { Pass first.now targets.now n mark.new stack.new path.new
-        start.new 0 0 0 0 }
-    ensures no_new { NoNew n mark.old mark.new × (value mark.new root ≡ 0 → ⊥) }
-{
-    let none = Tops {
-        top: 0,
-        segs: 0,
-        depth: 0,
-        cur: 0,
-    };
-    let at = push(first, mark, stack, path, start, none, root);
-    drain(first, targets, mark, stack, path, start, n, at);
-}
-
-// The same unless s was reached before.
-fn explore_new(
-    first: &[u32],
-    targets: &[Word],
-    mark: &mut [Word],
-    stack: &mut [Word],
-    path: &mut [Word],
-    start: &mut [Word],
-    n: usize,
-    s: usize,
-)
-    requires pass { Pass first.now targets.now n mark.old stack.old path.old start.old 0 0 0 0 }
-    requires s_lt_n { s < n }
-    ensures pass_2 { Pass first.now targets.now n mark.new stack.new path.new
-        start.new 0 0 0 0 }
-    ensures no_new { NoNew n mark.old mark.new × (value mark.new s ≡ 0 → ⊥) }
-{
-    if mark[s] == 0 {
-        explore(first, targets, mark, stack, path, start, n, s);
-    }
-}
-
-// From each node in turn.
-fn explore_all(
-    first: &[u32],
-    targets: &[Word],
-    mark: &mut [Word],
-    stack: &mut [Word],
-    path: &mut [Word],
-    start: &mut [Word],
-    n: usize,
-)
-    requires { Pass first.now targets.now n mark.old stack.old path.old start.old 0 0 0 0 }
-    ensures pass { Pass first.now targets.now n mark.new stack.new path.new
-        start.new 0 0 0 0 }
-    ensures by_index { (s : ℕ) → s < n → value mark.new s ≡ 0 → ⊥ }
-{
-    let mut s = 0;
-    while s < n {
-        explore_new(first, targets, mark, stack, path, start, n, s);
-        s += 1;
+        h
     }
 }
 
@@ -413,10 +65,245 @@ fn settle(mark: &mut [Word], n: usize)
     ensures { (s : ℕ) → s < n → value mark.new s ≡ value mark.old s - (n + 1) }
 {
     let base = (n + 1) as Word;
-    let mut s = 0;
-    while s < n {
-        mark[s] -= base;
-        s += 1;
+    for x in mark.iter_mut() {
+        *x -= base;
+    }
+}
+
+// A pass over a graph, in four lists that are lent; how far the stack, the segments and the path reach, and the place of the current node, the
+// path's last, on the stack.
+#[derive(Drop)]
+struct Pass<'a> {
+    mark: &'a mut [Word],
+    stack: &'a mut [Word],
+    path: &'a mut [Word],
+    start: &'a mut [Word],
+    top: usize,
+    segs: usize,
+    depth: usize,
+    cur: usize,
+}
+
+impl<'a> Pass<'a> {
+    ghost use Rattle.component.specs.Held.{graph_in, InPass, Idle, Same, Kept, Pushed, Dropped};
+
+    // t on the stack and on the path, as a segment of its own, none of its successors passed.
+    fn push(&mut self, graph: &Graph, t: usize)
+        requires bounds { (t < length self.old.mark.now) × (self.old.top < length self.old.stack.now)
+            × (self.old.depth < length self.old.path.now) × (self.old.segs < length self.old.start.now) }
+        requires small { (self.old.top < max_states) × (t < graph.now.nodes) }
+        ensures pushed { Pushed graph.now self.old self.new t }
+        ensures same { Same self.old self.new }
+    {
+        self.mark[t] = (self.top + 1) as Word;
+        self.stack[self.top] = t as Word;
+        self.path[self.depth] = graph.first[t] as Word;
+        self.start[self.segs] = self.top as Word;
+        self.cur = self.top;
+        self.top += 1;
+        self.segs += 1;
+        self.depth += 1;
+    }
+
+    // The place of the first successor of the current node that is new, behind those that were passed.
+    fn next(&self, graph: &Graph) -> Option<usize>
+        requires { InPass graph.now self.now × (0 < self.now.depth) }
+        ensures place { NewPlace graph.now.first.now graph.now.targets.now (value self.now.mark.now) (value self.now.stack.now self.now.cur)
+            (unwrap_or result (value graph.now.first.now (value self.now.stack.now self.now.cur + 1))) }
+        ensures some { IfSome result (λ i. i < value graph.now.first.now (value self.now.stack.now self.now.cur + 1)) }
+    {
+        let v = usize::from(self.stack[self.cur]);
+        let from = usize::from(self.path[self.depth - 1]);
+        let end = graph.first[v + 1] as usize;
+        for i in from..end {
+            if self.mark[usize::from(graph.targets[i])] == 0 {
+                return Some(i);
+            }
+        }
+        None
+    }
+
+    // The lowest place on the stack of a successor of the current node, or top.
+    #[tactic(auto, using(crate::proofs::Scans::low_more, crate::proofs::Scans::low_all))]
+    fn lowest(&self, graph: &Graph) -> usize
+        requires { InPass graph.now self.now × (0 < self.now.depth) }
+        ensures { Low (graph_in graph.now) (value self.now.mark.now) (value self.now.stack.now self.now.cur) self.now.top result }
+    {
+        let mut low = self.top;
+        for &t in graph.row(usize::from(self.stack[self.cur])) {
+            low = low_at(self.mark, usize::from(t), low);
+        }
+        low
+    }
+
+    // How many segments are left when those that start above w join that of w.
+    fn merged(&self, w: usize) -> usize
+        requires { (0 < self.now.segs) × (self.now.segs ≤ length self.now.start.now) × (value self.now.start.now 0 ≡ 0) }
+        ensures { Merged (value self.now.start.now) self.now.segs w result }
+    {
+        let mut r = self.segs;
+        // A while: it goes down only as far as segments start above w.
+        while w < usize::from(self.start[r - 1]) {
+            r -= 1;
+        }
+        r
+    }
+
+    // The larger of h and one more than the largest height of a finished successor of v.
+    #[tactic(auto, using(crate::proofs::Scans::most_more, crate::proofs::Scans::most_all))]
+    fn height_from(&self, graph: &Graph, v: usize, h: usize) -> usize
+        requires { (length self.now.mark.now ≡ graph.now.nodes) × (v < graph.now.nodes) }
+        ensures { MostFrom (graph_in graph.now) graph.now.nodes (value self.now.mark.now) v h result }
+    {
+        let mut most = h;
+        for &t in graph.row(v) {
+            most = height_at(self.mark, graph.nodes, usize::from(t), most);
+        }
+        most
+    }
+
+    // The same from 0 over the nodes from the current one to the top of the stack.
+    fn height(&self, graph: &Graph) -> usize
+        requires lengths { (length self.now.mark.now ≡ graph.now.nodes) × (self.now.top ≤ length self.now.stack.now) × (self.now.cur ≤ self.now.top) }
+        requires nodes { (p : ℕ) → p < self.now.top → value self.now.stack.now p < graph.now.nodes }
+        ensures { Most (graph_in graph.now) graph.now.nodes (value self.now.mark.now) (value self.now.stack.now) self.now.cur self.now.top result }
+    {
+        let mut most = 0;
+        for &v in &self.stack[self.cur..self.top] {
+            most = self.height_from(graph, usize::from(v), most);
+        }
+        most
+    }
+
+    // x as the mark of the nodes from the current one to the top of the stack.
+    fn paint(&mut self, x: Word)
+        requires lengths { (self.old.top ≤ length self.old.stack.now) × (self.old.cur ≤ self.old.top) }
+        requires nodes { (p : ℕ) → p < self.old.top → value self.old.stack.now p < length self.old.mark.now }
+        ensures painted { Painted (value self.old.mark.now) (value self.new.mark.now) (value self.old.stack.now) self.old.cur self.old.top x }
+        ensures kept { Kept self.old self.new }
+        ensures same { Same self.old self.new }
+    {
+        // By places: with a part of the stack lent while marks behind the same reference are written it did not prove.
+        for p in self.cur..self.top {
+            self.mark[usize::from(self.stack[p])] = x;
+        }
+    }
+
+    // The top segment, from the current node, finished; w is the lowest place on the stack of a successor of the current node, and before is the
+    // place of the node before it on the path.
+    fn pop(&mut self, graph: &Graph, w: usize, before: usize)
+        requires lengths { (length self.old.mark.now ≡ graph.now.nodes) × (length self.old.stack.now ≡ graph.now.nodes) }
+        requires cur_le_top { (self.old.cur ≤ self.old.top) × (self.old.top ≤ graph.now.nodes) × (0 < self.old.segs) × (0 < self.old.depth) }
+        requires nodes { (p : ℕ) → p < self.old.top → value self.old.stack.now p < graph.now.nodes }
+        requires heights { (t : ℕ) → t < graph.now.nodes → graph.now.nodes < value self.old.mark.now t
+            → height_in graph.now.nodes (value self.old.mark.now t) < graph.now.nodes }
+        ensures dropped { Dropped self.old self.new before }
+        ensures popped { Popped (graph_in graph.now) graph.now.nodes (value self.old.mark.now) (value self.new.mark.now)
+            (value self.old.stack.now) self.old.cur self.old.top w }
+        ensures same { Same self.old self.new }
+    {
+        // One more where a successor of the segment's first node is on the stack.
+        let c = usize::from(w < self.top);
+        let x = graph.nodes + 1 + (2 * self.height(graph) + c);
+        self.paint(x as Word);
+        self.top = self.cur;
+        self.segs -= 1;
+        self.depth -= 1;
+        self.cur = before;
+    }
+
+    // The place on the stack of the node before the current one on the path: the first stands at place 0, each other is the successor that was
+    // passed last.
+    fn place_before(&self, graph: &Graph) -> usize
+        requires { (0 < self.now.depth) × (self.now.depth ≤ length self.now.path.now)
+            × ((i : ℕ) → i + 2 ≡ self.now.depth - 1 → Entered graph.now.targets.now self.now.mark.now self.now.path.now i) }
+        ensures value { self.now.depth - 1 < 2 → result ≡ 0 }
+        ensures by_index { (i : ℕ) → i + 2 ≡ self.now.depth - 1
+            → suc result ≡ value self.now.mark.now (value graph.now.targets.now (value self.now.path.now i - 1)) }
+    {
+        let last = self.depth - 1;
+        if last < 2 {
+            return 0;
+        }
+        let i = usize::from(self.path[last - 2]);
+        let t = usize::from(graph.targets[i - 1]);
+        usize::from(self.mark[t]) - 1
+    }
+
+    // Back from the current node, which has no new successor.
+    fn retreat(&mut self, graph: &Graph)
+        requires pass { InPass graph.now self.old }
+        requires depth_nonzero { (0 < self.old.depth) × ((t : ℕ) → (graph_in graph.now).flow (value self.old.stack.now self.old.cur) t ≡ true
+            → value self.old.mark.now t ≡ 0 → ⊥) }
+        ensures pass { InPass graph.now self.new }
+        ensures moved { Moved graph.now.nodes self.old.mark.now self.new.mark.now self.old.depth self.new.depth }
+        ensures same { Same self.old self.new }
+    {
+        let before = self.place_before(graph);
+        let w = self.lowest(graph);
+        self.segs = self.merged(w);
+        if usize::from(self.start[self.segs - 1]) == self.cur {
+            self.pop(graph, w, before);
+        } else {
+            self.depth -= 1;
+            self.cur = before;
+        }
+    }
+
+    // One step of the pass: on to a new node, or back.
+    fn advance(&mut self, graph: &Graph)
+        requires pass { InPass graph.now self.old }
+        requires depth_nonzero { 0 < self.old.depth }
+        ensures pass { InPass graph.now self.new }
+        ensures moved { Moved graph.now.nodes self.old.mark.now self.new.mark.now self.old.depth self.new.depth }
+        ensures same { Same self.old self.new }
+    {
+        match self.next(graph) {
+            Some(i) => {
+                self.path[self.depth - 1] = (i + 1) as Word;
+                self.push(graph, usize::from(graph.targets[i]));
+            }
+            None => self.retreat(graph),
+        }
+    }
+
+    // Steps until the path is empty.
+    fn drain(&mut self, graph: &Graph)
+        requires { InPass graph.now self.old }
+        ensures idle { Idle graph.now self.new }
+        ensures no_new { NoNew graph.now.nodes self.old.mark.now self.new.mark.now }
+        ensures same { Same self.old self.new }
+    {
+        // A while: how many steps there will be is not known beforehand.
+        while 0 < self.depth {
+            self.advance(graph);
+        }
+    }
+
+    // From a node that was not reached before to all that it reaches.
+    fn explore(&mut self, graph: &Graph, root: usize)
+        requires idle { Idle graph.now self.old }
+        requires root { root < graph.now.nodes }
+        ensures idle { Idle graph.now self.new }
+        ensures no_new { NoNew graph.now.nodes self.old.mark.now self.new.mark.now × (value self.new.mark.now root ≡ 0 → ⊥) }
+        ensures same { Same self.old self.new }
+    {
+        if self.mark[root] == 0 {
+            self.push(graph, root);
+            self.drain(graph);
+        }
+    }
+
+    // From each node in turn.
+    fn explore_all(&mut self, graph: &Graph)
+        requires { Idle graph.now self.old }
+        ensures idle { Idle graph.now self.new }
+        ensures reached { (s : ℕ) → s < graph.now.nodes → value self.new.mark.now s ≡ 0 → ⊥ }
+        ensures same { Same self.old self.new }
+    {
+        for s in 0..graph.nodes {
+            self.explore(graph, s);
+        }
     }
 }
 
@@ -435,7 +322,22 @@ pub fn components(
     requires mark_len { (length mark.old ≡ n) × (length stack.old ≡ n) × (length path.old ≡ n) × (length start.old ≡ n) }
     ensures { Marks first.now targets.now n mark.new }
 {
-    clear(mark);
-    explore_all(first, targets, mark, stack, path, start, n);
-    settle(mark, n);
+    mark.fill(0);
+    let graph = Graph {
+        first,
+        targets,
+        nodes: n,
+    };
+    let mut pass = Pass {
+        mark,
+        stack,
+        path,
+        start,
+        top: 0,
+        segs: 0,
+        depth: 0,
+        cur: 0,
+    };
+    pass.explore_all(&graph);
+    settle(pass.mark, n);
 }

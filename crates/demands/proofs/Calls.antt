@@ -12,11 +12,10 @@ use Rattle.number.specs.Answer.{Answer, answer}
 use Rattle.model.specs.declared.Model.{Model}
 use Rattle.edge_walks.specs.Joint.{lacks_joint_reset}
 use Rattle.graph.specs.States.{states}
-use Rattle.evidence.specs.declared.Evidence.{Evidence}
+use Rattle.evidence.specs.Evidence.{Evidence}
 use Rattle.evidence.specs.Evidence.{EvidenceRefusal, checked}
 use Rattle.evidence.proofs.Answers.{refusal_known}
-use Rattle.evidence_writer.specs.declared.Written.{Written}
-use Rattle.evidence_writer.specs.Written.{verdict_with, written_for, written_by}
+use Rattle.evidence_writer.specs.Written.{Written, verdict_with, written_for, written_by}
 use Rattle.call.specs.Call.{model_of, refusal}
 use Rattle.call.specs.Joint.{disjoint, joint_refusal}
 use Rattle.call.proofs.Calls.{accepted}
@@ -24,7 +23,7 @@ use Rattle.call.proofs.Joint.{joint_refused, joint_past}
 use Rattle.op_judge.specs.Judge.{judged}
 use Rattle.op_marks.specs.Marks.{short, marks_refusal, marked}
 use Rattle.op_check.specs.Check.{evidence_answer, check_answer}
-use Rattle.op_check.proofs.Check.{check_done}
+use Rattle.demands.proofs.Admitted.{check_done}
 use Rattle.op_write.specs.Write.{written_answer, write_answer}
 use Rattle.op_write.proofs.Write.{write_done}
 use Rattle.op_judge_joint.specs.JudgeJoint.{joint_judged}
@@ -35,7 +34,7 @@ use Rattle.op_soonest.specs.Sounding.{unreached, soonest_refusal, soonest_answer
 use Rattle.op_sheet_margin.specs.SheetMargin.{sheet_margin_answer}
 use Rattle.op_harm.specs.Harm.{harm_answer}
 use Rattle.demands.specs.Room.{EachCall}
-use Rattle.evidence.specs.declared.Evidence.TheVariants as evidence
+use Rattle.evidence.specs.Evidence as evidence
 
 pub answer-number : (r : ℕ) (vs : List ℕ) → (answer r vs).number ≡ r
 unfolding answer

@@ -33,7 +33,7 @@ use Rattle.model.specs.declared.Model.{Model}
 use Rattle.model.specs.Model.{Lawful}
 use Rattle.graph.specs.Plan.{automaton_of, system_of_model, labelled_of_model}
 use Rattle.graph.proofs.Models.{system_laws, labelled_laws, unsafe_states, safe_states, sheet_covers}
-use Rattle.evidence.specs.declared.Evidence.{Evidence}
+use Rattle.evidence.specs.Evidence.{Evidence}
 use Rattle.evidence.specs.Evidence.{SheetPasses, TrailPasses, checked}
 use Rattle.evidence.specs.Ours.{our_evidence}
 use Rattle.evidence.proofs.Answers.{sheet_passes, trail_passes, refusal_above}
@@ -46,10 +46,10 @@ use Rattle.op_check.specs.Check.{evidence_answer, check_answer}
 use Rattle.op_write.specs.Write.{written_answer, write_answer, write_output}
 use Rattle.demands.specs.Told.{kind_answer}
 use Rattle.call.proofs.Calls.{accepted}
-use Rattle.op_check.proofs.Check.{check_done}
+use Rattle.demands.proofs.Admitted.{check_done}
 use Rattle.op_write.proofs.Write.{write_done, write_output_lem}
-use Rattle.evidence.specs.declared.Evidence.TheVariants as evidence
-use Rattle.evidence_writer.specs.declared.Written.TheVariants as written
+use Rattle.evidence.specs.Evidence as evidence
+use Rattle.evidence_writer.specs.Written as written
 
 answer_sheet : (e : Evidence) → evidence_answer e ≡ kind_answer 1 → e ≡ evidence.Sheet
 unfolding evidence_answer

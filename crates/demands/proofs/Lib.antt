@@ -1,3 +1,5 @@
+-- What calls say once a plan is admitted.
+pub mod Admitted
 -- Demand 2.
 pub mod Demand2
 -- Demand 3.

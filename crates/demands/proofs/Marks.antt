@@ -8,7 +8,7 @@ use borrow.Author.Tests.{ne_eqb}
 use Rattle.limits.specs.Limits.{KnownMark}
 use Rattle.number.specs.Number.{spell_all}
 use Rattle.number.specs.Sequence.{SpellsAll}
-use Rattle.parser.specs.declared.Reading.{Reading}
+use Rattle.parser.specs.Parse.{Reading}
 use Rattle.model.specs.Model.{limit_at}
 use Rattle.plan_reader.specs.Accept.{read_model, Whole}
 use Rattle.plan_reader.proofs.Accepted.{accepted_resets}

@@ -20,7 +20,7 @@ use Rattle.theory.specs.Region.{Region, Fits}
 use Rattle.theory.specs.StateGraph.{region_count}
 use Rattle.theory.specs.RegionGraph.{Allowed, Enabled, Flow, FlowWalk, Step, Marked}
 use Rattle.model.specs.declared.Model.{Model}
-use Rattle.parser.specs.declared.Reading.{Reading}
+use Rattle.parser.specs.Parse.{Reading}
 use Rattle.model.specs.Model.{slot, source_of, target_of}
 use Rattle.stay_fields.specs.Resolve.{default_at, limit_of}
 use Rattle.parser.specs.Parse.{parse_model}

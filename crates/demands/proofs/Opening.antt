@@ -11,7 +11,7 @@ use borrow.Author.Tests.{ne_eqb}
 use Rattle.theory.specs.Automaton.{Edge, Run}
 use Rattle.theory.proofs.Below.{either}
 use Rattle.model.specs.declared.Model.{Model}
-use Rattle.parser.specs.declared.Reading.{Reading}
+use Rattle.parser.specs.Parse.{Reading}
 use Rattle.parser.specs.Parse.{parse_model}
 use Rattle.edge_walks.specs.Opening.{OpensAlone, opens_alone}
 use Rattle.edge_walks.specs.Cycle.{DrawingWalk, Counts, LeavesUnreset}

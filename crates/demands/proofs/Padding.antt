@@ -7,24 +7,22 @@ use mathlib.Core.List.{List, [], ◌∷◌, ◌++◌}
 use Prim.Native.Nat.{ℕ, zero, suc, ◌≤◌, ◌<◌}
 use native.Mathlib.Omega.{arith}
 use lib.ListN.{length, length-append}
-use Rattle.number.specs.declared.Number.{Number}
-use Rattle.number.specs.declared.Number.TheVariants.{Value, Refused}
-use Rattle.number.specs.Number.{read_number, spell, spell_all}
+use Rattle.number.specs.Number.{Number, Value, Refused, read_number, spell, spell_all}
 use Rattle.number.specs.Shortest.{AreBytes}
 use Rattle.number.specs.Sequence.{SpelledBy, SpellsAll, SpellsShortest}
 use Rattle.number.specs.Answer.{Answer}
 use Rattle.number.proofs.Laws.{read_value, read_none, spells_some}
 use Rattle.number.proofs.Sequence.{plain, not_value, value_within, spelled, spelled_fit, in_any_form, shortest_sequence, one_spelling}
 use Rattle.model.specs.declared.Model.{Model}
-use Rattle.evidence.specs.declared.Evidence.{Evidence}
+use Rattle.evidence.specs.Evidence.{Evidence}
 use Rattle.call.specs.Call.{model_of, refusal}
 use Rattle.op_check.specs.Check.{evidence_answer, check_answer}
-use Rattle.op_check.proofs.Check.{check_done}
+use Rattle.demands.proofs.Admitted.{check_done}
 use Rattle.demands.specs.Told.{kind_answer}
 use Rattle.demands.specs.Padding.{SheetPassedBefore, TrailPassedBefore, Unpadded, Respelled}
 use Rattle.demands.proofs.Demand3.{sheet_exactly, trail_exactly, zero_exactly}
 use Rattle.demands.proofs.Respelled.{EvidencePair, checked_pair}
-use Rattle.evidence.specs.declared.Evidence.TheVariants as evidence
+use Rattle.evidence.specs.Evidence as evidence
 use Rattle.number.proofs.Sequence as sequence
 
 -- bytes without padding spell no other numbers, by the old rules either

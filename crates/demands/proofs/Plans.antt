@@ -14,7 +14,7 @@ use borrow.Author.Tests.{eqb-true, eqb-false, eq-eqb, ne_eqb, lt-ltb, le-ltb}
 use Rattle.number.specs.Answer.{Answer, answer}
 use Rattle.number.specs.Number.{spell_all}
 use Rattle.spelling.specs.Calls.{bytes_answer, bytes_output}
-use Rattle.parser.specs.declared.Reading.{Reading}
+use Rattle.parser.specs.Parse.{Reading}
 use Rattle.model.specs.Model.{limit_at}
 use Rattle.edge_walks.specs.Cycle.{LeavesUnreset}
 use Rattle.plan_reader.specs.Accept.{read_model}

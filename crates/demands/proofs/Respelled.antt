@@ -13,9 +13,7 @@ use Rattle.theory.specs.Region.{Region, clocks, lawful}
 use Rattle.theory.specs.Labels.{opens}
 use Rattle.theory.specs.Sheet.{in_of, height_of, keeps}
 use Rattle.theory.specs.System.{System}
-use Rattle.number.specs.declared.Number.{Number}
-use Rattle.number.specs.declared.Number.TheVariants.{Value, Refused}
-use Rattle.number.specs.Number.{Spells, read_number, on_number, spell}
+use Rattle.number.specs.Number.{Number, Value, Refused, Spells, read_number, on_number, spell}
 use Rattle.number.proofs.Laws.{spells_some, spells_bound}
 use Rattle.number.proofs.Spelling.{spell_shortest}
 use Rattle.number.proofs.Shortest.{is_shortest, is_padded, spell_is_shortest}
@@ -28,16 +26,16 @@ use Rattle.graph.specs.Plan.{system_of_model, labelled_of_model}
 use Rattle.sheet_numbers.specs.Numbers.{number_keeps, numbers_from}
 use Rattle.sheet.specs.Answer.{sheet_refusal}
 use Rattle.trail_numbers.specs.Numbers.{jump_label, label_at, numbers_at}
-use Rattle.replay.specs.declared.Reached.{Reached}
+use Rattle.replay.specs.Trail.{Reached}
 use Rattle.replay.specs.Trail.{on_reached, run, flow_to, walk_step, closed_walk, on_region, state_beside, face_step_to, touch_step_to, kind_step, trail_step, trail_answer}
-use Rattle.evidence.specs.declared.Evidence.{Evidence}
+use Rattle.evidence.specs.Evidence.{Evidence}
 use Rattle.evidence.specs.Evidence.{found, of_kind, checked}
 use Rattle.demands.specs.Padding.{Respelled}
 use Rattle.evidence_number.specs.Numbers as numbers
 use Rattle.evidence_number.proofs.Reading as reading
 use Rattle.number.proofs.Sequence as sequence
-use Rattle.replay.specs.declared.Reached.TheVariants as reached
-use Rattle.evidence.specs.declared.Evidence.TheVariants as evidence
+use Rattle.replay.specs.Trail as reached
+use Rattle.evidence.specs.Evidence as evidence
 
 -- ---- shorter, and as empty
 

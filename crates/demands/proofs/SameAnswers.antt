@@ -9,7 +9,7 @@ use Rattle.number.specs.Answer.{answer}
 use Rattle.spelling.specs.Lays.{filled}
 use Rattle.spelling.specs.Calls.{bytes_answer, bytes_output}
 use Rattle.model.specs.declared.Model.{Model}
-use Rattle.parser.specs.declared.Reading.{Reading}
+use Rattle.parser.specs.Parse.{Reading}
 use Rattle.plan_reader.specs.Accept.{read_model}
 use Rattle.canonical.specs.Canonical.{shortest_plan}
 use Rattle.graph.specs.Plan.{automaton_of, system_of_model}

@@ -30,7 +30,7 @@ use Rattle.sheet.specs.Answer.{sheet_refusal}
 use Rattle.evidence.specs.Evidence.{of_kind, checked}
 use Rattle.call.specs.Call.{model_of}
 use Rattle.demands.specs.Tight.{stairs, stairs_sheet}
-use Rattle.evidence.specs.declared.Evidence.TheVariants as evidence
+use Rattle.evidence.specs.Evidence as evidence
 
 pub stairs_accepted : (read_model stairs).refusal ≡ 0
 unfolding stairs stairs_sheet checked of_kind sheet_refusal numbers_from number_keeps keeps read_evidence read_spelled read_number spell read_model parse_model parse_counts parse_body each kind_at invariant_at ends_at guard_at resolved field_at mark_edge round_of survivors has_cycle opens_alone unreset automaton_of tab any all system_of flow_test step_from time_from jump_from state_at beside allowed_state number_of index_in same_region region_of location_of region_count regions allowed guard_holds lawful fits attains face shares corners has_corner same

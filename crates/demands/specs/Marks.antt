@@ -1,6 +1,6 @@
 -- Request (c) of 02: stay fields as 01 has them, and a plan in another mark.
 use Rattle.std.specs.Prelude.{◌≡◌, ◌⊎◌, cond, List, [], ◌∷◌, map, ℕ, ◌+◌, eqb}
-use Rattle.parser.specs.declared.Reading.{Reading}
+use Rattle.parser.specs.Parse.{Reading}
 use Rattle.model.specs.Model.{limit_at}
 
 -- 01: "0 means the ceiling, any other s means limit s-1"

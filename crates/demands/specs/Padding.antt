@@ -2,8 +2,7 @@
 use Rattle.std.specs.Prelude.{◌≡◌, List, ◌∷◌, ◌++◌, ℕ}
 use Rattle.theory.specs.Sheet.{Sheet}
 use Rattle.theory.specs.Replay.{Move, Passes}
-use Rattle.number.specs.declared.Number.TheVariants.{Value}
-use Rattle.number.specs.Number.{Spells, read_number, spell}
+use Rattle.number.specs.Number.{Value, Spells, read_number, spell}
 use Rattle.number.specs.Sequence.{SpellsAll, SpellsShortest}
 use Rattle.model.specs.declared.Model.{Model}
 use Rattle.graph.specs.Plan.{automaton_of, system_of_model, labelled_of_model}

@@ -25,13 +25,11 @@ use Rattle.graph.specs.Plan.{automaton_of, system_of_model}
 use Rattle.graph.specs.States.{states}
 use Rattle.graph.proofs.Models.{system_laws}
 use Rattle.successors.proofs.Room.{states_limit}
-use Rattle.number.specs.declared.Number.{Number}
-use Rattle.number.specs.Number.{read_number}
+use Rattle.number.specs.Number.{Number, read_number}
 use Rattle.number.specs.Shortest.{read_spelled, number_in}
 use Rattle.number.proofs.Laws.{Sound, sound}
 use Rattle.number.proofs.Shortest.{number_in_lem}
-use Rattle.evidence_writer.specs.declared.Written.{Written}
-use Rattle.evidence_writer.specs.Written.{verdict_with, written_for, written_by}
+use Rattle.evidence_writer.specs.Written.{Written, verdict_with, written_for, written_by}
 use Rattle.evidence_writer.proofs.Output.{evidence_most, evidence_by_most}
 use Rattle.op_write.specs.Write.{written_answer, write_answer}
 use Rattle.robust.specs.Margin.{margin}
@@ -59,7 +57,7 @@ use Rattle.op_soonest.specs.Sounding.{soonest_refusal, soonest_answer}
 use Rattle.op_soonest.proofs.Arrivals.{soonest_taken}
 use Rattle.theory.proofs.Trail.{steps_verdict}
 use Rattle.c_words.specs.Words.{value, SmallValue, max_field, Fields, StatesFit, BytesFit, StoredFit}
-use Rattle.number.specs.declared.Number.TheVariants as number
+use Rattle.number.specs.Number as number
 
 module _ (Y : System) (L : Laws Y) (few : Y.size ≤ max_states) where
   count_small : count_of Y ≤ Y.size

@@ -15,7 +15,7 @@ use Rattle.limits.specs.Limits.{max_locations}
 use Rattle.limits.proofs.Zeros.{zeros}
 use Rattle.model.specs.Each.{each, some_below}
 use Rattle.model.specs.Model.{Lawful, source_of, target_of}
-use Rattle.edge_walks.specs.Opening.{marked_at, Flagged}
+use Rattle.edge_walks.specs.Opening.{marked_at, flag_at, Flagged}
 use Rattle.edge_walks.specs.Cycle.{DrawingWalk, here, step, ClosedWalk, LeavesUnreset, mark_source, mark_edge, round_of, survivors, has_cycle, Counts, counts, unreset_at, unreset}
 use Rattle.model.proofs.Each.{some_law}
 use Rattle.model.proofs.Gather.{each_ext}
@@ -194,8 +194,8 @@ cycle_ext m pass other same =
     ap (λ (t : Bool). mark_source t (source_of m e) (target_of m e) a b) (same e h)) (replicate max_locations 0)) (replicate max_locations 1))
 
 -- so the search for flagged edges is that for the edges that pass
-pub flagged_cycle : {m : Model} {flags : List ℕ} {pass : ℕ → Bool} → Flagged m flags pass → has_cycle m (marked_at flags) ≡ has_cycle m pass
-flagged_cycle {m} {flags} {pass} f = cycle_ext m (marked_at flags) pass f.at
+pub flagged_cycle : {m : Model} {flags : List Bool} {pass : ℕ → Bool} → Flagged m flags pass → has_cycle m (flag_at flags) ≡ has_cycle m pass
+flagged_cycle {m} {flags} {pass} f = cycle_ext m (flag_at flags) pass f.at
 
 pub unreset_law : (m : Model) → Lawful m → (unreset m ≡ true) ↔ LeavesUnreset m
 unfolding unreset

@@ -1,87 +1,51 @@
 // Whether there is a closed walk of flagged edges, by rounds over the locations.
-ghost use Rattle.std.specs.Prelude.{◌≡◌, ◌||◌, ◌<◌};
-ghost use Rattle.limits.specs.Limits.{max_locations};
-ghost use Rattle.model.specs.Each.{some_below};
+ghost use Rattle.std.specs.Prelude.{◌≡◌, map};
+ghost use Rattle.std.specs.List.{list_any};
 ghost use Rattle.model.specs.Model.{Lawful};
-ghost use Rattle.edge_walks.specs.Opening.{marked_at};
-ghost use Rattle.edge_walks.specs.Cycle.{mark_source, round_of, survivors, has_cycle};
+ghost use Rattle.edge_walks.specs.Opening.{flag_of, flag_at};
+ghost use Rattle.edge_walks.specs.Cycle.{round_of, survivors, has_cycle};
 
 use limits::{MAX_EDGES, MAX_LOCATIONS};
 use model::Model;
 
-// Of an edge only its own numbers are handed on: a model would be copied for each edge of each round.
-fn mark_source(
-    passes: bool,
-    source: u8,
-    target: u8,
-    a: [u8; MAX_LOCATIONS],
-    b: [u8; MAX_LOCATIONS],
-) -> [u8; MAX_LOCATIONS]
-    requires { (source < max_locations) × (target < max_locations) }
-    ensures { result ≡ mark_source passes source target a b }
-{
-    let mut c = b;
-    if passes {
-        if a[target as usize] == 1 {
-            c[source as usize] = 1;
-            return c;
-        }
-        return c;
-    }
-    c
-}
-
 // The sources of the flagged edges that lead to a mark.
-fn round(m: Model, flags: [u8; MAX_EDGES], a: [u8; MAX_LOCATIONS]) -> [u8; MAX_LOCATIONS]
-    requires { Lawful m }
-    ensures { result ≡ round_of m (marked_at flags) a }
+#[tactic(auto, using(crate::proofs::Opens::marks), unfolding(model::specs::Each::each, crate::specs::Cycle::mark_edge, crate::specs::Cycle::round_of))]
+fn round(m: &Model, flags: &[bool; MAX_EDGES], a: &[bool; MAX_LOCATIONS]) -> [bool; MAX_LOCATIONS]
+    requires { Lawful m.now }
+    ensures { map flag_of result ≡ round_of m.now (flag_at flags.now) (map flag_of a.now) }
 {
-    let count = m.edges as usize;
-    let mut b = [0; MAX_LOCATIONS];
-    for e in 0..count {
-        let c = mark_source(flags[e] == 1, m.source[e], m.target[e], a, b);
-        b = c;
+    let mut b = [false; MAX_LOCATIONS];
+    for e in 0..usize::from(m.edges) {
+        if flags[e] && a[usize::from(m.target[e])] {
+            b[usize::from(m.source[e])] = true;
+        }
     }
     b
 }
 
-fn rounds(m: Model, flags: [u8; MAX_EDGES]) -> [u8; MAX_LOCATIONS]
-    requires { Lawful m }
-    ensures { result ≡ survivors m (marked_at flags) }
+// The locations at which a walk of as many flagged edges as there are locations starts.
+#[tactic(auto, unfolding(model::specs::Each::each, crate::specs::Cycle::survivors))]
+fn survivors(m: &Model, flags: &[bool; MAX_EDGES]) -> [bool; MAX_LOCATIONS]
+    requires { Lawful m.now }
+    ensures { map flag_of result ≡ survivors m.now (flag_at flags.now) }
 {
-    let count = m.locations as usize;
-    let mut a = [1; MAX_LOCATIONS];
-    for _ in 0..count {
-        let c = round(m, flags, a);
-        a = c;
+    let mut a = [true; MAX_LOCATIONS];
+    for _ in 0..m.locations {
+        a = round(m, flags, &a);
     }
     a
 }
 
-fn or_marked(a: [u8; MAX_LOCATIONS], i: usize, found: bool) -> bool
-    requires { i < max_locations }
-    ensures { result ≡ (marked_at a i || found) }
+fn any_marked(a: &[bool; MAX_LOCATIONS]) -> bool
+    ensures { result ≡ list_any (λ b. b) a.now }
 {
-    if a[i] == 1 {
-        return true;
-    }
-    found
-}
-
-fn any_marked(a: [u8; MAX_LOCATIONS]) -> bool
-    ensures { result ≡ some_below max_locations (marked_at a) }
-{
-    let mut found = false;
-    for i in 0..MAX_LOCATIONS {
-        found = or_marked(a, i, found);
-    }
-    found
+    a.iter().any(|&marked| marked)
 }
 
 // A closed walk of flagged edges.
-pub fn has_cycle(m: Model, flags: [u8; MAX_EDGES]) -> bool
-    requires { Lawful m }
-    ensures { result ≡ has_cycle m (marked_at flags) }
+pub fn has_cycle(m: &Model, flags: &[bool; MAX_EDGES]) -> bool
+    requires { Lawful m.now }
+    ensures { result ≡ has_cycle m.now (flag_at flags.now) }
 {
-    any_marked(rounds(m, flags))
+    any_marked(&survivors(m, flags))
 }

@@ -6,7 +6,7 @@ ghost use Rattle.edge_walks.specs.Opening.{opens_alone, Flagged};
 ghost use Rattle.edge_walks.specs.Joint.{partial_reset, lacks_joint_reset};
 
 use super::cycle::has_cycle;
-use super::opening::{as_flag, open_edges};
+use super::opening::{flag_edges, open_edges};
 use limits::MAX_EDGES;
 use model::Model;
 
@@ -20,28 +20,22 @@ fn resets_every(mask: u8, n: u8) -> bool
 }
 
 // Of the edges that can open alone, those that keep some clock.
-fn partial_resets(m: Model, opens: [u8; MAX_EDGES]) -> [u8; MAX_EDGES]
-    requires lawful { Lawful m }
-    requires flagged { Flagged m opens (opens_alone m) }
-    ensures { Flagged m result (partial_reset m) }
+fn partial_resets(m: &Model, opens: &[bool; MAX_EDGES]) -> [bool; MAX_EDGES]
+    requires lawful { Lawful m.now }
+    requires flagged { Flagged m.now opens.now (opens_alone m.now) }
+    ensures { Flagged m.now result (partial_reset m.now) }
 {
-    let count = m.edges as usize;
-    let n = m.clocks;
-    let mut flags = [0; MAX_EDGES];
-    for e in 0..count {
-        flags[e] = as_flag(!resets_every(m.reset[e], n) & (opens[e] == 1));
-    }
-    flags
+    flag_edges(m, |e| !resets_every(m.reset[e], m.clocks) && opens[e])
 }
 
 // A closed walk that counts has no edge that resets every clock. It is asked at every quicker call, so the smallest plans, which have no edge, are
 // answered at once.
-pub fn lacks_joint_reset(m: Model) -> bool
-    requires { Lawful m }
-    ensures { result ≡ lacks_joint_reset m }
+pub fn lacks_joint_reset(m: &Model) -> bool
+    requires { Lawful m.now }
+    ensures { result ≡ lacks_joint_reset m.now }
 {
     if m.edges == 0 {
         return false;
     }
-    has_cycle(m, partial_resets(m, open_edges(m)))
+    has_cycle(m, &partial_resets(m, &open_edges(m)))
 }

@@ -1,8 +1,8 @@
 // Which edges can open alone, as flags.
-ghost use Rattle.std.specs.Prelude.{◌≡◌, ◌&&◌, ◌<◌, ◌^◌, ◌/◌, ◌%◌, eqb};
-ghost use Rattle.limits.specs.Limits.{max_clocks};
+ghost use Rattle.std.specs.Prelude.{◌≡◌, ℕ, ◌≤◌, ◌<◌, ◌^◌, ◌/◌, ◌%◌, eqb};
+ghost use Rattle.limits.specs.Limits.{max_clocks, max_edges};
 ghost use Rattle.model.specs.Model.{Lawful};
-ghost use Rattle.edge_walks.specs.Opening.{lets_open, opens_for, opens_alone, marked_at, flag_of, Flagged};
+ghost use Rattle.edge_walks.specs.Opening.{lets_open, opens_for, opens_alone, flag_at, Flagged};
 
 use limits::MAX_EDGES;
 use model::{Model, STRIDE};
@@ -19,57 +19,53 @@ pub fn keeps_clock(mask: u8, x: u8) -> bool
 fn lets_open(low: u8, from: u8, to: u8, kept: bool) -> bool
     ensures { result ≡ lets_open low from to kept }
 {
-    if from < low {
-        return false;
-    }
-    if kept {
-        return low <= to;
+    low <= from && (!kept || low <= to)
+}
+
+#[tactic(auto, using(crate::proofs::Opens::ends_below))]
+fn clock_opens(m: &Model, e: usize, x: u8) -> bool
+    requires { Lawful m.now × (e < m.now.edges) × (x < m.now.clocks) }
+    ensures { result ≡ opens_for m.now e x }
+{
+    let clock = usize::from(x);
+    let from = STRIDE * usize::from(m.source[e]) + clock;
+    let to = STRIDE * usize::from(m.target[e]) + clock;
+    let low = m.lower[STRIDE * e + clock];
+    let kept = keeps_clock(m.reset[e], x);
+    lets_open(low, m.invariant[from], m.invariant[to], kept)
+}
+
+// Each clock lets the edge open.
+#[tactic(auto, using(crate::proofs::Opens::all_not), unfolding(crate::specs::Opening::opens_alone, model::specs::Each::each))]
+fn opens_alone(m: &Model, e: usize) -> bool
+    requires { Lawful m.now × (e < m.now.edges) }
+    ensures { result ≡ opens_alone m.now e }
+{
+    for x in 0..m.clocks {
+        if !clock_opens(m, e, x) {
+            return false;
+        }
     }
     true
 }
 
-pub fn as_flag(passes: bool) -> u8
-    ensures { result ≡ flag_of passes }
+// A flag for each edge that passes.
+pub fn flag_edges<F: Fn(usize) -> bool>(m: &Model, pass: F) -> [bool; MAX_EDGES]
+    requires edges { m.now.edges ≤ max_edges }
+    requires callable { (e : ℕ) → e < m.now.edges → F.pre pass e }
+    ensures { (e : ℕ) → e < m.now.edges → F.post pass e (flag_at result e) }
 {
-    if passes {
-        return 1;
+    let mut flags = [false; MAX_EDGES];
+    for e in 0..usize::from(m.edges) {
+        flags[e] = pass(e);
     }
-    0
-}
-
-// Of the flagged edges, those that a clock lets open. Clock by clock, since a model is handed on by value: edge by edge it would be copied for each.
-fn clock_opens(m: Model, x: usize, flags: [u8; MAX_EDGES]) -> [u8; MAX_EDGES]
-    requires lawful { Lawful m }
-    requires x_lt_max_clocks { x < max_clocks }
-    ensures { Flagged m result (λ e. opens_for m e x && marked_at flags e) }
-{
-    let count = m.edges as usize;
-    let mut opens = [0; MAX_EDGES];
-    for e in 0..count {
-        let from = STRIDE * (m.source[e] as usize) + x;
-        let to = STRIDE * (m.target[e] as usize) + x;
-        let kept = keeps_clock(m.reset[e], x as u8);
-        let lets = lets_open(
-            m.lower[STRIDE * e + x],
-            m.invariant[from],
-            m.invariant[to],
-            kept,
-        );
-        opens[e] = as_flag(lets & (flags[e] == 1));
-    }
-    opens
+    flags
 }
 
 // A flag for each edge that can open alone.
-pub fn open_edges(m: Model) -> [u8; MAX_EDGES]
-    requires { Lawful m }
-    ensures { Flagged m result (opens_alone m) }
+pub fn open_edges(m: &Model) -> [bool; MAX_EDGES]
+    requires { Lawful m.now }
+    ensures { Flagged m.now result (opens_alone m.now) }
 {
-    let clocks = m.clocks as usize;
-    let mut flags = [1; MAX_EDGES];
-    for x in 0..clocks {
-        let opens = clock_opens(m, x, flags);
-        flags = opens;
-    }
-    flags
+    flag_edges(m, |e| opens_alone(m, e))
 }

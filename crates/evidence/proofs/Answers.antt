@@ -17,9 +17,9 @@ use Rattle.sheet.proofs.Answer.{sheet_law}
 use Rattle.replay.specs.Trail.{trail_answer}
 use Rattle.replay.proofs.Answers.{passes_law}
 use Rattle.replay.proofs.Ways.{number_ind}
-use Rattle.evidence.specs.declared.Evidence.{Evidence}
+use Rattle.evidence.specs.Evidence.{Evidence}
 use Rattle.evidence.specs.Evidence.{SheetPasses, TrailPasses, EvidenceRefusal, found, of_kind, checked}
-use Rattle.evidence.specs.declared.Evidence.TheVariants as evidence
+use Rattle.evidence.specs.Evidence as evidence
 use Rattle.sheet.proofs.Answer as sheet
 use Rattle.replay.proofs.Answers as trail
 

@@ -1,150 +1,109 @@
 // Evidence from anywhere, checked for a model: a sheet or a trail, by its first number.
 #![tactic(auto)]
 
-ghost use Rattle.std.specs.Prelude.{◌≡◌, ◌≤◌, length};
-ghost use Rattle.limits.specs.Limits.{small_regions};
-ghost use Rattle.model.specs.Model.{Lawful};
-ghost use Rattle.graph.specs.States.{Listed, states};
-ghost use Rattle.tables.specs.Tables.{Room};
+ghost use Rattle.std.specs.Prelude.{◌≡◌, length};
+ghost use Rattle.limits.specs.Refusal.{refusal_number};
+ghost use Rattle.graph.specs.States.{states};
 ghost use Rattle.sheet.specs.Answer.{sheet_answer};
-ghost use Rattle.evidence.specs.Evidence.{found, of_kind, checked};
+ghost use Rattle.replay.specs.Trail.{trail_answer};
+ghost use Rattle.evidence.specs.Evidence.{numbered, checked};
 
-use limits::refusal::NO_EVIDENCE;
-use limits::{MAX_REGIONS, MAX_STATES, MAX_STEPS, SMALL_REGIONS, SMALL_STATES, SMALL_STEPS, Word};
-use model::Model;
+use graph::Space;
+use limits::refusal::Refusal;
+use limits::{MAX_REGIONS, Word};
+use model::Plan;
 use number::Number;
-use shapes::{MAX_SHAPES, SMALL_SHAPES};
+use tables::Task;
 
-// What passed, or the refusal.
-#[derive(Clone, Copy)]
+// What passed.
+#[derive(Clone, Copy, Debug, PartialEq, Eq)]
 pub enum Evidence {
     Sheet,
     Trail,
-    Refused(u8),
 }
 
-// The rules need the tables of the model, but no chains through the corners.
-fn fill_and_check(
-    m: Model,
-    table: &[u32],
-    bytes: &[u8],
+// The check of a sheet. The rules need the tables of the model, but no chains through the corners.
+#[derive(Drop)]
+struct SheetCheck<'a, 'b> {
+    bytes: &'a [u8],
     at: usize,
-    allowed: &mut [u8],
-    first: &mut [u32],
-    targets: &mut [Word],
-    shapes: &mut [Word],
-    sheet: &mut [Word],
-) -> u8
-    requires lawful { Lawful m × Listed m table.now × (length sheet.old ≡ states m) }
-    requires room { Room m allowed.old first.old targets.old shapes.old }
-    ensures { result ≡ sheet_answer m bytes.now at }
-{
-    tables::fill_tables(m, table, allowed, first, targets, shapes);
-    sheet::check_sheet(m, bytes, at, allowed, first, targets, shapes, sheet)
+    sheet: &'b mut [Word],
 }
 
-// With tables of its own, for any plan.
-fn check_large(m: Model, table: &[u32], bytes: &[u8], at: usize, sheet: &mut [Word]) -> u8
-    requires { Lawful m × Listed m table.now × (length sheet.old ≡ states m) }
-    ensures { result ≡ sheet_answer m bytes.now at }
-{
-    let mut allowed = [0u8; MAX_STATES];
-    let mut first = [0u32; MAX_STATES + 1];
-    let mut targets = [0 as Word; MAX_STEPS];
-    let mut shapes = [0 as Word; MAX_SHAPES];
-    let s = sheet.len();
-    let firsts = s + 1;
-    let end = shapes::shapes_end(table.len());
-    fill_and_check(
-        m,
-        table,
-        bytes,
-        at,
-        &mut allowed[..s],
-        &mut first[..firsts],
-        &mut targets,
-        &mut shapes[..end],
-        sheet,
-    )
-}
+impl<'a, 'b> Task for SheetCheck<'a, 'b> {
+    ghost use Rattle.std.specs.Prelude.{◌≡◌, length};
+    ghost use Rattle.limits.specs.Refusal.{refusal_number};
+    ghost use Rattle.graph.specs.States.{states};
+    ghost use Rattle.sheet.specs.Answer.{sheet_answer};
 
-// The same for a small plan: the smaller tables are sooner made.
-fn check_small(m: Model, table: &[u32], bytes: &[u8], at: usize, sheet: &mut [Word]) -> u8
-    requires lawful { Lawful m × Listed m table.now × (length sheet.old ≡ states m) }
-    requires table_len_bound { length table.now ≤ small_regions }
-    ensures { result ≡ sheet_answer m bytes.now at }
-{
-    let mut allowed = [0u8; SMALL_STATES];
-    let mut first = [0u32; SMALL_STATES + 1];
-    let mut targets = [0 as Word; SMALL_STEPS];
-    let mut shapes = [0 as Word; SMALL_SHAPES];
-    let s = sheet.len();
-    let firsts = s + 1;
-    let end = shapes::shapes_end(table.len());
-    fill_and_check(
-        m,
-        table,
-        bytes,
-        at,
-        &mut allowed[..s],
-        &mut first[..firsts],
-        &mut targets,
-        &mut shapes[..end],
-        sheet,
-    )
-}
+    type Answer = Result<(), Refusal>;
 
-fn check_sheet(m: Model, table: &[u32], bytes: &[u8], at: usize, sheet: &mut [Word]) -> u8
-    requires { Lawful m × Listed m table.now × (length sheet.old ≡ states m) }
-    ensures { result ≡ sheet_answer m bytes.now at }
-{
-    if table.len() <= SMALL_REGIONS {
-        return check_small(m, table, bytes, at, sheet);
+    ghost asks = { λ t p. length t.sheet.now ≡ states p.model };
+
+    ghost gives = { λ t p new r. (refusal_number r ≡ sheet_answer p.model t.bytes.now t.at) × (new.sheet.ghost_name ≡ t.sheet.ghost_name) };
+
+    fn run(
+        &mut self,
+        space: &Space,
+        allowed: &mut [u8],
+        first: &mut [u32],
+        targets: &mut [Word],
+        shapes: &mut [Word],
+    ) -> Result<(), Refusal> {
+        tables::fill_tables(space, allowed, first, targets, shapes);
+        sheet::check_sheet(
+            space.plan.model,
+            self.bytes,
+            self.at,
+            allowed,
+            first,
+            targets,
+            shapes,
+            self.sheet,
+        )
     }
-    check_large(m, table, bytes, at, sheet)
 }
 
-// What passed where nothing was refused.
-fn finding(kind: Evidence, refusal: u8) -> Evidence
-    ensures { result ≡ found kind refusal }
+fn check_sheet(plan: &Plan, bytes: &[u8], at: usize, sheet: &mut [Word]) -> Result<(), Refusal>
+    requires { length sheet.old ≡ states plan.now.model }
+    ensures { refusal_number result ≡ sheet_answer plan.now.model bytes.now at }
 {
-    if refusal == 0 {
-        return kind;
-    }
-    Evidence::Refused(refusal)
+    let mut check = SheetCheck { bytes, at, sheet };
+    tables::run(&mut check, plan)
 }
 
-// The first number tells which kind follows.
-fn check_kind(
-    m: Model,
-    table: &[u32],
-    bytes: &[u8],
-    kind: u32,
-    at: usize,
-    sheet: &mut [Word],
-) -> Evidence
-    requires { Lawful m × Listed m table.now × (length sheet.old ≡ states m) }
-    ensures { result ≡ of_kind m bytes.now kind at }
+fn check_trail(plan: &Plan, bytes: &[u8], at: usize) -> Result<(), Refusal>
+    ensures { refusal_number result ≡ trail_answer plan.now.model bytes.now at }
 {
-    if kind == 1 {
-        return finding(Evidence::Sheet, check_sheet(m, table, bytes, at, sheet));
-    }
-    if kind == 2 {
-        return finding(Evidence::Trail, replay::replay(m, table, bytes, at));
-    }
-    Evidence::Refused(NO_EVIDENCE)
+    let mut regions = [0u32; MAX_REGIONS];
+    let r = region_table::select(plan.model.clocks, plan.model.ceiling, &mut regions);
+    let space = Space {
+        plan,
+        table: &regions[..r],
+    };
+    replay::replay(&space, bytes, at)
 }
 
-// Whether the bytes are evidence that passes, and of which kind, or the refusal: 1, 2, 6 or 10 to 15. Into `sheet` go the numbers of a sheet.
-pub fn check(m: Model, bytes: &[u8], sheet: &mut [Word]) -> Evidence
-    requires { Lawful m × (length sheet.old ≡ states m) }
-    ensures { result ≡ checked m bytes.now }
+// Which kind of evidence the bytes are, where they pass, by the first number; or the refusal: EndsTooSoon, ThirdTopBit, Padded, BytesRemain, NoEvidence or
+// one of a sheet's or a trail's own. Into `sheet` go the numbers of a sheet.
+#[tactic(auto, unfolding(crate::specs::Evidence::checked, crate::specs::Evidence::of_kind))]
+pub fn check(plan: &Plan, bytes: &[u8], sheet: &mut [Word]) -> Result<Evidence, Refusal>
+    requires { length sheet.old ≡ states plan.now.model }
+    ensures { numbered result ≡ checked plan.now.model bytes.now }
 {
     let got = evidence_number::read(bytes, 0);
     let Number::Value(kind, at) = got else {
-        return Evidence::Refused(number::refusal_of(got));
+        return Err(got.refusal());
     };
-    let mut table = [0u32; MAX_REGIONS];
-    let r = region_table::select(m.clocks, m.ceiling, &mut table);
-    check_kind(m, &table[..r], bytes, kind, at, sheet)
+    match kind {
+        1 => {
+            check_sheet(plan, bytes, at, sheet)?;
+            Ok(Evidence::Sheet)
+        }
+        2 => {
+            check_trail(plan, bytes, at)?;
+            Ok(Evidence::Trail)
+        }
+        _ => Err(Refusal::NoEvidence),
+    }
 }

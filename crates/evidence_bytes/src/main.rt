@@ -18,9 +18,8 @@ fn write<W: Write>(to: &mut W, plan: &[u8], out: &mut [u8]) -> io::Result<()> {
     let mut c = [0; 4000];
     let mut d = [0; 4000];
     match drift::write_evidence(plan, &mut a, &mut b, &mut c, &mut d, out) {
-        Written::Safe(n) => send(to, out, n),
-        Written::Unsafe(n) => send(to, out, n),
-        Written::Refused(number) => refuse(to, number),
+        Ok(Written::Safe(n) | Written::Unsafe(n)) => send(to, out, n),
+        Err(r) => refuse(to, r.code()),
     }
 }
 

@@ -6,15 +6,13 @@ use mathlib.Core.Logic.{◌↔◌, inl, inr, ⊎_elim}
 use mathlib.Core.List.{List, ◌∷◌}
 use lib.ListN.{length, take, drop}
 use lib.Seq.{drop-drop}
-use Rattle.number.specs.declared.Number.TheVariants.{Value, Refused}
-use Rattle.number.specs.declared.Spelled.{Spelled}
-use Rattle.number.specs.Number.{read_number, number_refusal, spell_all}
-use Rattle.number.specs.Shortest.{ShortestForm, PaddedForm, read_spelled}
+use Rattle.number.specs.Number.{Value, Refused, read_number, number_refusal, spell_all}
+use Rattle.number.specs.Shortest.{Spelled, ShortestForm, PaddedForm, read_spelled}
 use Rattle.number.proofs.Laws.{spells_some, spells_bound}
 use Rattle.number.proofs.Shortest.{StandsHere, shortest_law, padded_law, refused_law, spell_is_shortest}
 use Rattle.number.proofs.Sequence.{Reading, ReadsBy, Fit, plain, value_in, end_in, not_value, read_within, read_small}
 use Rattle.evidence_number.specs.Evidence.{SpellsEvidence, unpadded, read_evidence, NumberRefusal}
-use Rattle.number.specs.declared.Spelled.TheVariants as spelled
+use Rattle.number.specs.Shortest as spelled
 use Rattle.number.proofs.Sequence as sequence
 pub use Rattle.number.proofs.Sequence.{none, more, moved, reads_append, reads_split, reads_first, reads_end}
 

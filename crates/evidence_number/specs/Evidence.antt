@@ -1,12 +1,10 @@
 -- The numbers of evidence (01, "Evidence": "Numbers as above"; 02 (b): "No padding in evidence"): how bytes spell them, how they are read, and by what
 -- they are refused.
 use Rattle.std.specs.Prelude.{◌≡◌, ◌⊎◌, List, ℕ}
-use Rattle.number.specs.declared.Number.{Number}
-use Rattle.number.specs.declared.Number.TheVariants.{Value, Refused}
-use Rattle.number.specs.declared.Spelled.{Spelled}
-use Rattle.number.specs.Shortest.{read_spelled}
+use Rattle.number.specs.Number.{Number, Value, Refused}
+use Rattle.number.specs.Shortest.{Spelled, read_spelled}
 use Rattle.number.specs.Sequence.{SpellsShortest}
-use Rattle.number.specs.declared.Spelled.TheVariants as spelled
+use Rattle.number.specs.Shortest as spelled
 
 -- bytes that spell numbers one after the other, with nothing after, each "in shortest form": this "joins 01's spelling of evidence"
 abbrev pub SpellsEvidence : List ℕ → List ℕ → Type 0

@@ -3,18 +3,20 @@
 #![tactic(auto)]
 
 ghost use Rattle.std.specs.Prelude.{◌≡◌};
+ghost use Rattle.number.specs.Number.{numbered};
 ghost use Rattle.evidence_number.specs.Evidence.{read_evidence};
 
-use limits::refusal::PADDED;
+use limits::refusal::Refusal;
 use number::{Number, Spelled};
 
 // The number at an offset.
+#[tactic(auto, unfolding(crate::specs::Evidence::read_evidence))]
 pub fn read(bytes: &[u8], at: usize) -> Number
-    ensures { result ≡ read_evidence bytes.now at }
+    ensures { numbered result ≡ read_evidence bytes.now at }
 {
     match number::read_spelled(bytes, at) {
         Spelled::Shortest(v, next) => Number::Value(v, next),
-        Spelled::Padded(_, _) => Number::Refused(PADDED),
+        Spelled::Padded(_, _) => Number::Refused(Refusal::Padded),
         Spelled::Refused(r) => Number::Refused(r),
     }
 }

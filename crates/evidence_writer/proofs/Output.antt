@@ -6,7 +6,6 @@ use mathlib.Core.Bool.{Bool, true, false}
 use mathlib.Core.Logic.{⊎_elim}
 use mathlib.Core.List.{List, ◌∷◌}
 use lib.ListN.{length}
-use borrow.Author.Tests.{lt-ltb, le-ltb}
 use Rattle.graph.proofs.Plan.{size-states}
 use Rattle.theory.specs.Marked.{unsafe}
 use Rattle.theory.specs.Below.{tab}
@@ -25,7 +24,6 @@ use Rattle.successors.proofs.Room.{states_limit}
 use Rattle.spelling.specs.Lays.{Lays, max_bytes, filled}
 use Rattle.spelling.proofs.Lays.{fills, fills_not}
 use Rattle.evidence.specs.Ours.{our_sheet_numbers, our_trail_numbers, our_evidence}
-use Rattle.evidence_writer.specs.declared.Written.TheVariants.{Safe, Unsafe, Refused}
 use Rattle.evidence_writer.specs.Written.{evidence_by, verdict_with, written_for, written_by}
 use Rattle.trail_writer.specs.Lent.{LeadsThrough}
 use Rattle.trail_writer.specs.Path.{path_numbers}
@@ -57,19 +55,6 @@ module _ (touch : Bool) (m : Model) where
   left_out = fills_not (evidence_by touch m)
 
 -- ---- the answer
-
-module _ (bad : Bool) (need room : ℕ) where
-  pub with_short : room < need → Refused 9 ≡ verdict_with bad need room
-  unfolding verdict_with
-  with_short h = simp (lt-ltb room need h) refl
-
-  pub with_unsafe : need ≤ room → bad ≡ true → Unsafe need ≡ verdict_with bad need room
-  unfolding verdict_with
-  with_unsafe h b = simp (le-ltb room need h, b) refl
-
-  pub with_safe : need ≤ room → bad ≡ false → Safe need ≡ verdict_with bad need room
-  unfolding verdict_with
-  with_safe h b = simp (le-ltb room need h, b) refl
 
 pub written_as : (touch : Bool) (m : Model) (bad : Bool) (need room : ℕ) → unsafe (with_touch touch (system_of_model m)) ≡ bad
     → need ≡ length (evidence_by touch m) → verdict_with bad need room ≡ written_by touch m room

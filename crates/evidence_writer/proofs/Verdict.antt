@@ -61,6 +61,10 @@ module _ {touch : Bool} {m : Model} {table first targets shapes heights distance
     pub steps_by : ((Z : System) → Laws Z → Distances Z distance → Forbids Z r m.kind → steps ≡ trail_steps Z) → steps ≡ trail_steps Y
     steps_by f = f Y its_laws K.levelled.surveyed.distances (forbids_by m K.lawful touch r e)
 
+    -- are fewer than there are states
+    pub few_by : ((Z : System) → Laws Z → Distances Z distance → Forbids Z r m.kind → steps < length distance) → steps < length distance
+    few_by f = f Y its_laws K.levelled.surveyed.distances (forbids_by m K.lawful touch r e)
+
     -- what the search for the trail's states asks
     pub trail_asked : steps < length distance
         → (steps < length distance) × (m.start * r < length distance) × (steps ≤ length path) × (length distance ≤ length m.kind * r)

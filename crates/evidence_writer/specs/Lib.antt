@@ -4,3 +4,5 @@
 pub mod Searched
 -- What it answers and leaves.
 pub mod Written
+-- Writing as a task.
+pub mod Task

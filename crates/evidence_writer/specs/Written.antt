@@ -1,5 +1,7 @@
 -- What the writer answers and leaves in the output.
-use Rattle.std.specs.Prelude.{Bool, cond, List, ◌∷◌, ℕ, ltb, length}
+use Rattle.std.specs.Prelude.{Bool, cond, List, ◌∷◌, ℕ, ltb, length, Result, Ok, Err}
+use Rattle.limits.specs.declared.refusal.Refusal.{Refusal}
+use Rattle.limits.specs.Refusal.{code_of}
 use Rattle.theory.specs.Marked.{unsafe}
 use Rattle.theory.specs.Sheet.{our_sheet}
 use Rattle.theory.specs.Replay.{our_moves}
@@ -10,8 +12,20 @@ use Rattle.graph.specs.Plan.{automaton_of, system_of_model, labelled_of_model}
 use Rattle.replay.specs.Spelling.{trail_numbers}
 use Rattle.spelling.specs.Lays.{filled}
 use Rattle.evidence.specs.Ours.{our_evidence}
-use Rattle.evidence_writer.specs.declared.Written.{Written}
-use Rattle.evidence_writer.specs.declared.Written.TheVariants.{Safe, Unsafe, Refused}
+use Rattle.evidence_writer.specs.declared.Written as declared
+use Rattle.evidence_writer.specs.declared.Written.TheVariants as code
+
+-- the verdict with the number of bytes written, or the number of the refusal
+pub data Written : Type 0 where
+  Safe : ℕ → Written
+  Unsafe : ℕ → Written
+  Refused : ℕ → Written
+
+-- what the code answers, its refusal by number
+abbrev pub numbered : Result declared.Written Refusal → Written
+numbered (Ok (code.Safe n)) = Safe n
+numbered (Ok (code.Unsafe n)) = Unsafe n
+numbered (Err r) = Refused (code_of r)
 
 -- the output in the end
 unfoldable pub evidence_in : Model → List ℕ → List ℕ

@@ -6,8 +6,7 @@ use mathlib.Core.List.{List}
 use Prim.Native.Nat.{ℕ, ◌+◌, ◌-◌, ◌*◌, ◌≤◌, ◌<◌}
 use native.Mathlib.Decide.{ℕ_discrete, dec_lt}
 use native.Mathlib.Omega.{arith}
-use lib.ListN.{length, get_or, set, length-set}
-use lib.Seq.{get_or-set_same, get_or-set_other}
+use lib.ListN.{get_or}
 use Rattle.theory.proofs.Pairs.{pair_left, pair_right}
 use Rattle.theory.specs.Below.{bit}
 use Rattle.theory.specs.Sheet.{in_of}
@@ -19,7 +18,6 @@ use Rattle.graph.specs.Plan.{automaton_of, system_of_model}
 use Rattle.graph.specs.States.{states}
 use Rattle.graph.proofs.Models.{system_laws}
 use Rattle.region_corners.specs.Shapes.{Shapes}
-use Rattle.successors.specs.Flags.{AllowedFlags}
 use Rattle.successors.specs.Flow.{regions_in}
 use Rattle.successors.proofs.Steps.{bit_one}
 use Rattle.sheet_rules.specs.Rules.{Blank, Touched}
@@ -27,7 +25,7 @@ use Rattle.sheet_rules.proofs.Systems.{CornerTables, touched_near, near_touched}
 use Rattle.sheet_rules.proofs.Models.{model_corners, location_fits}
 use Rattle.robust.specs.Fringe.{fringe}
 use Rattle.robust.proofs.Fringe.{fringe_law}
-use Rattle.fringe.specs.Flags.{FringeBelow, FringeFlags, StateFlag, LocationFlags}
+use Rattle.fringe.specs.Flags.{FringeBelow, LocationFlags}
 
 -- a number that is 1 where a test holds, and 0 elsewhere
 bit_is : (x : ℕ) (b : Bool) → x ≤ 1 → (x ≡ 1) ↔ (b ≡ true) → x ≡ bit b
@@ -38,45 +36,7 @@ bit_is x false l (f, g) = by (ℕ_discrete x 1)
     by (yes e) = absurd (true≢false (sym (f e)))
     by (no e) = omega arith
 
--- ---- the flag of a state, by the ways through its test
-
-module _ {sheet corner : List ℕ} {base R i allowed : ℕ} where
-  pub flag_off : ((allowed ≡ 1) × (in_of sheet (base + i) ≡ false) × Touched sheet corner base R i → ⊥) → StateFlag sheet corner base R i allowed 0
-  flag_off n = record { small = omega arith; is = (λ e. absurd (omega arith), λ t. absurd (n t)) }
-
-  pub flag_on : allowed ≡ 1 → in_of sheet (base + i) ≡ false → Touched sheet corner base R i → StateFlag sheet corner base R i allowed 1
-  flag_on a o t = record { small = omega arith; is = (λ _. (a, o, t), λ _. refl) }
-
--- ---- the flags of a location
-
-pub location_none : (sheet corner : List ℕ) (base R : ℕ) (flags : List ℕ) → LocationFlags sheet corner base R 0 flags flags
-location_none sheet corner base R flags =
-    record { long = refl; is = λ i h. absurd (omega arith); before = λ p h. refl; after = λ p h. refl }
-
-pub location_more : {sheet corner : List ℕ} {base R i x : ℕ} {flags flags' : List ℕ} → base + i < length flags
-    → LocationFlags sheet corner base R i flags flags' → StateFlag sheet corner base R i (get_or flags' (base + i) 0) x
-    → LocationFlags sheet corner base R (i + 1) flags (set flags' (base + i) x)
-location_more {sheet} {corner} {base} {R} {i} {x} {flags} {flags'} b F f =
-    record {
-      long = length-set flags' (base + i) x ∙ F.long;
-      is = λ k h. by k h (ℕ_discrete k i);
-      before = λ p h. get_or-set_other flags' (base + i) p x 0 (λ e. omega arith) ∙ F.before p h;
-      after = λ p h. get_or-set_other flags' (base + i) p x 0 (λ e. omega arith) ∙ F.after p (omega arith);
-    }
-  where
-    by : (k : ℕ) → k < i + 1 → Dec (k ≡ i) → StateFlag sheet corner base R k (get_or flags (base + k) 0) (get_or (set flags' (base + i) x) (base + k) 0)
-    by k h (yes e) =
-        rw (e, get_or-set_same flags' (base + i) x 0 (omega (arith, F.long)))
-        (rw (F.after (base + i) (omega arith)) at f)
-    by k h (no e) = rw (get_or-set_other flags' (base + i) (base + k) x 0 (λ d. omega arith)) (F.is k (omega arith))
-
 -- ---- the flags of a model
-
-pub fringe_none : {m : Model} {sheet flags : List ℕ} → AllowedFlags m flags → FringeBelow m sheet 0 flags
-fringe_none a = record { long = a.long; is = λ p h. absurd (omega arith); rest = λ p _ h. a.is p h }
-
-pub fringe_all : {m : Model} {sheet flags : List ℕ} (n : ℕ) → states m ≤ n → FringeBelow m sheet n flags → FringeFlags m sheet flags
-fringe_all n l f = record { long = f.long; is = λ p h. f.is p (omega arith) }
 
 module _ {m : Model} {shapes : List ℕ} (ok : Lawful m) (F : Shapes m.clocks m.ceiling shapes) (R : ℕ) (is : R ≡ regions_in m) where
   pub tables_of : CornerTables (system_of_model m) m.locations R shapes
@@ -102,14 +62,15 @@ module _ {m : Model} {shapes : List ℕ} (ok : Lawful m) (F : Shapes m.clocks m.
         )
 
     -- the flags of location l follow those of the locations before it
-    fringe_next : {flags flags' : List ℕ} → FringeBelow m sheet (l * R) flags → LocationFlags sheet (corners_in R shapes) (l * R) R R flags flags'
-        → FringeBelow m sheet (l * R + R) flags'
-    fringe_next {flags} {flags'} B G =
-        record {
+    pub fringe_more : {flags flags' : List ℕ} → FringeBelow m sheet (l * R) flags → LocationFlags sheet (corners_in R shapes) (l * R) R R flags flags'
+        → FringeBelow m sheet ((l + 1) * R) flags'
+    fringe_more {flags} {flags'} B G =
+        let next : (l + 1) * R ≡ l * R + R = omega arith in
+        rw next (record {
           long = G.long ∙ B.long;
           is = λ p h. by p h (dec_lt p (l * R));
           rest = λ p k h. G.after p k ∙ B.rest p (omega arith) h;
-        }
+        })
       where
         here : (i : ℕ) → i < R → get_or flags' (l * R + i) 0 ≡ bit (fringe (system_of_model m) (in_of sheet) (l * R + i))
         here i h =
@@ -127,8 +88,3 @@ module _ {m : Model} {shapes : List ℕ} (ok : Lawful m) (F : Shapes m.clocks m.
         by p h (no d) =
             let e : l * R + (p - l * R) ≡ p = omega (arith, d) in
             rw e at (here (p - l * R) (omega (arith, d)))
-
-    -- and so where its states begin at `base`
-    pub fringe_more : {base : ℕ} {flags flags' : List ℕ} → base ≡ l * R → FringeBelow m sheet base flags
-        → LocationFlags sheet (corners_in R shapes) base R R flags flags' → FringeBelow m sheet (base + R) flags'
-    fringe_more e B G = rw e (fringe_next (rw e at B) (rw e at G))

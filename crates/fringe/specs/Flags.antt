@@ -11,7 +11,7 @@ use Rattle.graph.specs.States.{states}
 use Rattle.successors.specs.Flags.{AllowedFlags}
 use Rattle.region_corners.specs.Shapes.{Shapes}
 use Rattle.sheet_rules.specs.Tables.{Slots}
-use Rattle.sheet_rules.specs.Rules.{Blank, Touched, TouchAsked}
+use Rattle.sheet_rules.specs.Rules.{Blank, Touched}
 use Rattle.robust.specs.Fringe.{fringe}
 
 -- the states below n have the flags of the fringe, the others still those of allowed states
@@ -46,10 +46,6 @@ pub record LocationFlags (sheet corner : List ℕ) (base R n : ℕ) (flags flags
   pub is : (i : ℕ) → i < n → StateFlag sheet corner base R i (get_or flags (base + i) 0) (get_or flags' (base + i) 0)
   pub before : (p : ℕ) → p < base → get_or flags' p 0 ≡ get_or flags p 0
   pub after : (p : ℕ) → base + n ≤ p → get_or flags' p 0 ≡ get_or flags p 0
-
-pub record StateAsked (sheet corner noted : List ℕ) (base R i : ℕ) : Type 0 where
-  pub room : base + R ≤ length sheet
-  pub corners : TouchAsked sheet corner noted base R i
 
 pub record LocationAsked (shapes sheet : List ℕ) (base R : ℕ) (flags : List ℕ) : Type 0 where
   pub room : base + R ≤ length sheet

@@ -1,36 +1,25 @@
 // The fringe of a sheet: the states that are out and share a corner with an in-state of their location.
 #![tactic(auto)]
 
+ghost use Rattle.std.specs.Prelude.{◌+◌, ◌≤◌, ◌<◌, length};
 ghost use Rattle.shapes.specs.Layout.{corners_in};
-ghost use Rattle.fringe.specs.Flags.{FringeFlags, FringeAsked, StateFlag, LocationFlags, StateAsked, LocationAsked};
+ghost use Rattle.sheet_rules.specs.Rules.{Noted};
+ghost use Rattle.fringe.specs.Flags.{FringeFlags, FringeAsked, StateFlag, LocationFlags, LocationAsked};
 
 use limits::{POINTS, Word};
 use model::Model;
 use shapes::corners_of;
+use sheet_rules::Corners;
 
-// The flag of region i of the location whose states begin at `base`; `allowed` is 1 where its state is allowed.
-fn flag_state(
-    sheet: &[Word],
-    corner: &[Word],
-    noted: &[u8; POINTS],
-    base: usize,
-    regions: usize,
-    i: usize,
-    allowed: u8,
-) -> u8
-    requires { StateAsked sheet.now corner.now noted.now base regions i }
-    ensures { StateFlag sheet.now corner.now base regions i allowed result }
+// The flag of region i of a location; `allowed` is 1 where its state is allowed.
+fn flag_state(corners: &Corners, noted: &[u8; POINTS], i: usize, allowed: u8) -> u8
+    requires room { corners.now.base + corners.now.regions ≤ length corners.now.sheet.now }
+    requires below { i < corners.now.regions }
+    requires flags { Noted corners.now.sheet.now corners.now.slots.now noted.now corners.now.base corners.now.regions }
+    ensures { StateFlag corners.now.sheet.now corners.now.slots.now corners.now.base corners.now.regions i allowed result }
 {
-    if allowed != 1 {
-        return 0;
-    }
-    if sheet_rules::is_in(sheet, base + i) {
-        return 0;
-    }
-    if sheet_rules::touches(sheet, corner, noted, base, regions, i) {
-        return 1;
-    }
-    0
+    let out = allowed == 1 && !sheet_rules::is_in(corners.sheet, corners.base + i);
+    u8::from(out && corners.touches(noted, i))
 }
 
 // The flags of a location.
@@ -39,14 +28,17 @@ fn flag_location(shapes: &[Word], sheet: &[Word], base: usize, regions: usize, f
     ensures { LocationFlags sheet.now (corners_in regions shapes.now) base regions regions
         flags.old flags.new }
 {
-    let corner = corners_of(shapes, regions);
-    let noted = sheet_rules::note_corners(sheet, corner, base, regions);
-    let mut i = 0;
-    while i < regions {
+    let slots = corners_of(shapes, regions);
+    let corners = Corners {
+        sheet,
+        slots,
+        base,
+        regions,
+    };
+    let noted = corners.noted();
+    for i in 0..regions {
         let p = base + i;
-        let flag = flag_state(sheet, corner, &noted, base, regions, i, flags[p]);
-        flags[p] = flag;
-        i += 1;
+        flags[p] = flag_state(&corners, &noted, i, flags[p]);
     }
 }
 
@@ -56,11 +48,7 @@ pub fn fill_fringe(m: Model, shapes: &[Word], sheet: &[Word], flags: &mut [u8])
     ensures { FringeFlags m sheet.now flags.new }
 {
     let regions = sheet_rules::regions_in(m, sheet.len());
-    let mut base = 0;
-    let mut l: u8 = 0;
-    while l < m.locations {
-        flag_location(shapes, sheet, base, regions, flags);
-        base += regions;
-        l += 1;
+    for l in 0..usize::from(m.locations) {
+        flag_location(shapes, sheet, l * regions, regions, flags);
     }
 }

@@ -27,12 +27,9 @@ use Rattle.region_table.proofs.Counts.{regions_few}
 use Rattle.region_table.proofs.Listed.{known_found, listed_length, listed_known}
 use Rattle.model.specs.declared.Model.{Model}
 use Rattle.model.specs.Model.{source_of, target_of, Lawful}
-use Rattle.graph.specs.declared.Next.{Next}
-use Rattle.graph.specs.declared.Next.TheVariants.{To, Nothing}
+use Rattle.std.proofs.Common.{Option, Some, None}
 use Rattle.graph.specs.Plan.{entries_at, edge_of, automaton_of}
 use Rattle.graph.specs.States.{Listed, states, next_of, joined}
-use Rattle.region_table.specs.declared.Found.TheVariants as found
-use Rattle.region.specs.declared.Later.TheVariants as later
 
 -- the entries of n clocks are the first n of three
 entries_three : (xs : List ℕ) (i : ℕ) (n : ℕ) → Clocks n
@@ -164,11 +161,11 @@ module _ (m : Model) (ok : Lawful m) where
   unfolding allowed_state
   state_allowed p g h k v = rw (lt-ltb p (states m) h, ← v) (allowed_is (location_of (automaton_of m) p) g k)
 
-  none_at_all : next_of m (states m) ≡ Nothing
+  none_at_all : next_of m (states m) ≡ None
   none_at_all = rw (le-ltb (states m) (states m) (omega arith))
 
   pub at_none : (l : ℕ) (g : Region) → Known m.clocks m.ceiling g → fits (view m.clocks g) ((automaton_of m).invariant l) ≡ false
-      → next_of m (state_at (automaton_of m) m.locations l (view m.clocks g)) ≡ Nothing
+      → next_of m (state_at (automaton_of m) m.locations l (view m.clocks g)) ≡ None
   unfolding state_at
   at_none l g k f = rw (allowed_is l g k ∙ f) none_at_all
 
@@ -178,16 +175,16 @@ module _ (m : Model) (ok : Lawful m) where
   own_index j c = at_own_index (automaton_of m) j c
 
   pub at_state : (table : List ℕ) → Listed m table → (l i : ℕ) (g : Region) → l < m.locations → Known m.clocks m.ceiling g
-      → fits (view m.clocks g) ((automaton_of m).invariant l) ≡ true → found_in table (pack g) ≡ found.At i
+      → fits (view m.clocks g) ((automaton_of m).invariant l) ≡ true → found_in table (pack g) ≡ Some i
       → (l * length table + i < states m)
-      × (next_of m (state_at (automaton_of m) m.locations l (view m.clocks g)) ≡ To (l * length table + i))
+      × (next_of m (state_at (automaton_of m) m.locations l (view m.clocks g)) ≡ Some (l * length table + i))
   unfolding state_at number_of automaton_of
   at_state table listed l i g b k f e =
       let a = automaton_of m in
       let law = (lawful_law m.clocks m.ceiling (view m.clocks g)).0 k.lawful in
       let n = number_below a m.locations l b law in
       let (j, c, r, d) = known_found m.clocks m.ceiling clocks_of ceiling_of g k in
-      let same : found.At j ≡ found.At i = sym d ∙ ap (λ t. found_in t (pack g)) (sym listed) ∙ e in
+      let same : Some j ≡ Some i = sym d ∙ ap (λ t. found_in t (pack g)) (sym listed) ∙ e in
       let ji : j ≡ i = cc in
       let own : index_in (regions m.clocks m.ceiling) (view m.clocks g) ≡ j = rw r at (own_index j c) in
       let whole : number_of a l (view m.clocks g) ≡ l * length table + i
@@ -197,10 +194,10 @@ module _ (m : Model) (ok : Lawful m) where
 
   -- every known region is in the table
   pub at_missing : (table : List ℕ) → Listed m table → (g : Region) → Known m.clocks m.ceiling g
-      → found_in table (pack g) ≡ found.Nothing → ⊥
+      → found_in table (pack g) ≡ None → ⊥
   at_missing table listed g k e =
       let (j, c, r, d) = known_found m.clocks m.ceiling clocks_of ceiling_of g k in
-      let same : found.At j ≡ found.Nothing = sym d ∙ ap (λ t. found_in t (pack g)) (sym listed) ∙ e in
+      let same : Some j ≡ None = sym d ∙ ap (λ t. found_in t (pack g)) (sym listed) ∙ e in
       let z : ◌≡◌ {A = ℕ} 0 1 = cc in
       omega arith
 
@@ -211,19 +208,19 @@ module _ (m : Model) (ok : Lawful m) where
   edge_is e d = at_from (edge_of m) no_edge 0 m.edges e d ∙ ap (edge_of m) (zero-add e)
 
   jump_elsewhere : (e p : ℕ) → e < m.edges → (source_of m e ≡ location_of (automaton_of m) p → ⊥)
-      → next_of m (jump_from (automaton_of m) m.locations e p) ≡ Nothing
+      → next_of m (jump_from (automaton_of m) m.locations e p) ≡ None
   unfolding jump_from
   jump_elsewhere e p d n =
       rw (edge_is e d, ne_eqb (source_of m e) (location_of (automaton_of m) p) n) (closed (allowed_state (automaton_of m) m.locations p) _)
     where
-      closed : (b : Bool) (q : ℕ) → next_of m (cond (b && false) q (states m)) ≡ Nothing
+      closed : (b : Bool) (q : ℕ) → next_of m (cond (b && false) q (states m)) ≡ None
       closed true q = none_at_all
       closed false q = none_at_all
 
   -- the state p, its region g, and whether g is within the stay limits, as the code tells them
   module _ (table : List ℕ) (listed : Listed m table) (p : ℕ) (h : p < states m) where
     pub jump_away : (e : ℕ) → e < m.edges → (source_of m e ≡ p / length table → ⊥)
-        → Nothing ≡ next_of m (jump_from (automaton_of m) m.locations e p)
+        → None ≡ next_of m (jump_from (automaton_of m) m.locations e p)
     jump_away e d n = sym (jump_elsewhere e p d (λ s. n (s ∙ sym (location_is table listed p h))))
 
     module _ (g : Region) (d : Known m.clocks m.ceiling g × (view m.clocks g ≡ region_of (automaton_of m) p))
@@ -234,7 +231,7 @@ module _ (m : Model) (ok : Lawful m) where
           ∙ ap (λ l. fits (view m.clocks g) ((automaton_of m).invariant l)) (location_is table listed p h)
           ∙ sym (state_allowed p g h d.0 d.1)
 
-      pub time_shut : b ≡ false → Nothing ≡ next_of m (time_from (automaton_of m) m.locations p)
+      pub time_shut : b ≡ false → None ≡ next_of m (time_from (automaton_of m) m.locations p)
       unfolding time_from
       time_shut o = rw (sym stays_allowed ∙ o) (sym none_at_all)
 
@@ -245,16 +242,16 @@ module _ (m : Model) (ok : Lawful m) where
       time_is o = rw (sym stays_allowed ∙ o, ← d.1)
 
       -- past the ceiling there is no lawful region
-      pub time_ends : b ≡ true → later_of (time_of m.clocks m.ceiling (view m.clocks g)) ≡ later.Past
-          → Nothing ≡ next_of m (time_from (automaton_of m) m.locations p)
+      pub time_ends : b ≡ true → later_of (time_of m.clocks m.ceiling (view m.clocks g)) ≡ None
+          → None ≡ next_of m (time_from (automaton_of m) m.locations p)
       unfolding state_at allowed lawful automaton_of
       time_ends o e = rw (time_is o, known_past m.clocks m.ceiling clocks_of ceiling_of g e) (sym none_at_all)
 
-      module _ (x : Region) (e : later_of (time_of m.clocks m.ceiling (view m.clocks g)) ≡ later.Next x) where
+      module _ (x : Region) (e : later_of (time_of m.clocks m.ceiling (view m.clocks g)) ≡ Some x) where
         pub time_known : Known m.clocks m.ceiling x
         time_known = (known_next m.clocks m.ceiling clocks_of ceiling_of g x d.0 e).0
 
-        pub time_moves : b ≡ true → (r : Next)
+        pub time_moves : b ≡ true → (r : Option ℕ)
             → r ≡ next_of m (state_at (automaton_of m) m.locations (p / length table) (view m.clocks x))
             → r ≡ next_of m (time_from (automaton_of m) m.locations p)
         time_moves o r t =
@@ -264,7 +261,7 @@ module _ (m : Model) (ok : Lawful m) where
             ∙ ap (next_of m) (sym (time_is o))
 
       module _ (e : ℕ) (l : e < m.edges) where
-        pub jump_stuck : b ≡ false → Nothing ≡ next_of m (jump_from (automaton_of m) m.locations e p)
+        pub jump_stuck : b ≡ false → None ≡ next_of m (jump_from (automaton_of m) m.locations e p)
         unfolding jump_from
         jump_stuck o = rw (sym stays_allowed ∙ o) (sym none_at_all)
 
@@ -273,7 +270,7 @@ module _ (m : Model) (ok : Lawful m) where
           starts = eq-eqb (source_of m e) (location_of (automaton_of m) p) (f ∙ location_is table listed p h)
 
           pub jump_closed : guard_holds (edge_of m e) (view m.clocks g) ≡ false
-              → Nothing ≡ next_of m (jump_from (automaton_of m) m.locations e p)
+              → None ≡ next_of m (jump_from (automaton_of m) m.locations e p)
           unfolding jump_from
           jump_closed c = rw (edge_is e l, sym stays_allowed ∙ o, starts, ← d.1, c) (sym none_at_all)
 
@@ -285,7 +282,7 @@ module _ (m : Model) (ok : Lawful m) where
 
           pub jump_moves : guard_holds (edge_of m e) (view m.clocks g) ≡ true
               → (x : Region) → x ≡ struct_of (close_up (reset_clocks (mask_bits max_clocks (get_or m.reset e 0)) (view max_clocks g)))
-              → (r : Next) → r ≡ next_of m (state_at (automaton_of m) m.locations (target_of m e) (view m.clocks x))
+              → (r : Option ℕ) → r ≡ next_of m (state_at (automaton_of m) m.locations (target_of m e) (view m.clocks x))
               → r ≡ next_of m (jump_from (automaton_of m) m.locations e p)
           jump_moves c x q r t =
               t

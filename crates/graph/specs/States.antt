@@ -1,11 +1,9 @@
 -- What the functions on states are lent, and how a number of a state is answered.
-use Rattle.std.specs.Prelude.{ℕ, ◌≡◌, Bool, cond, ◌&&◌, List, ltb, eqb}
+use Rattle.std.specs.Prelude.{ℕ, ◌≡◌, Bool, cond, ◌&&◌, List, ltb, eqb, Option, Some, None}
 use Rattle.theory.specs.StateGraph.{state_count, location_of, allowed_state}
 use Rattle.region_table.specs.Table.{packed_regions}
 use Rattle.model.specs.declared.Model.{Model}
 use Rattle.graph.specs.Plan.{automaton_of}
-use Rattle.graph.specs.declared.Next.{Next}
-use Rattle.graph.specs.declared.Next.TheVariants.{To, Nothing}
 
 -- the table is the list of the model's regions, packed
 abbrev pub Listed : Model → List ℕ → Type 0
@@ -16,8 +14,8 @@ abbrev pub states : Model → ℕ
 states m = state_count (automaton_of m) m.locations
 
 -- a number below S is a state; S stands for none
-abbrev pub next_of : Model → ℕ → Next
-next_of m q = cond (ltb q (states m)) (To q) Nothing
+abbrev pub next_of : Model → ℕ → Option ℕ
+next_of m q = cond (ltb q (states m)) (Some q) None
 
 -- two allowed states of one location
 abbrev pub joined : Model → ℕ → ℕ → Bool

@@ -4,7 +4,8 @@
 ghost use Rattle.printing.specs.Text.{Writes};
 ghost use Rattle.judge.specs.Verdict.{verdict_text};
 
-use drift::{Judgement, Written};
+use drift::Judgement;
+use limits::refusal::Refusal;
 use printing::{line, refuse, say};
 use reading::read_full;
 use std::io;
@@ -15,21 +16,21 @@ const INPUT: usize = 4096;
 
 const OUTPUT: usize = 65536;
 
-fn show<W: Write>(to: &mut W, found: Judgement) -> io::Result<()>
+fn show<W: Write>(to: &mut W, found: Result<Judgement, Refusal>) -> io::Result<()>
     ensures { Writes (W.contents to.old) (W.contents to.new) result (verdict_text found) }
 {
     match found {
-        Judgement::Safe(states, count) => {
+        Ok(Judgement::Safe(states, count)) => {
             say(to, b"verdict safe\n")?;
             line(to, b"states ", states as u64)?;
             line(to, b"in ", count as u64)
         }
-        Judgement::Unsafe(states, count) => {
+        Ok(Judgement::Unsafe(states, count)) => {
             say(to, b"verdict unsafe\n")?;
             line(to, b"states ", states as u64)?;
             line(to, b"steps ", count as u64)
         }
-        Judgement::Refused(number) => refuse(to, number),
+        Err(r) => refuse(to, r.code()),
     }
 }
 
@@ -38,12 +39,10 @@ fn judge<W: Write>(to: &mut W, plan: &[u8], out: &mut [u8]) -> io::Result<()> {
     let mut b = [0; 4000];
     let mut c = [0; 4000];
     let mut d = [0; 4000];
-    let written = drift::write_evidence(plan, &mut a, &mut b, &mut c, &mut d, out);
-    if let Written::Refused(number) = written {
-        refuse(to, number)
-    } else {
-        show(to, drift::judge(plan, &mut a, &mut b, &mut c, &mut d))
+    if let Err(r) = drift::write_evidence(plan, &mut a, &mut b, &mut c, &mut d, out) {
+        return refuse(to, r.code());
     }
+    show(to, drift::judge(plan, &mut a, &mut b, &mut c, &mut d))
 }
 
 fn main(rt: HostRuntime) -> io::Result<()> {

@@ -7,15 +7,13 @@ use Prim.Native.Nat.{ℕ, ◌+◌, ◌≤◌, ◌<◌}
 use native.Mathlib.Omega.{arith}
 use native.Mathlib.Nat.{add-zero}
 use native.Mathlib.Decide.{dec_lt, ℕ_discrete}
-use lib.ListN.{length, get_or, set}
-use lib.Seq.{get_or-set_same}
+use lib.ListN.{length, get_or}
 use Rattle.theory.specs.Labels.{LabelledSystem}
 use Rattle.theory.specs.Soonest.{jump_step, unit_step, Timed}
 use Rattle.theory.proofs.Timed.{Joined}
 use Rattle.theory.proofs.TimedRuns.{timed_append}
-use Rattle.limits.specs.Limits.{max_states}
 use Rattle.search.specs.Queue.{Queued, Takes, TakesAll}
-use Rattle.search.proofs.Rounds.{start_taken}
+use Rattle.search.proofs.Rounds.{start_level}
 use Rattle.search.proofs.Queue.{takes_none, takes_kept, takes_reached, takes_then, takes_widen}
 use Rattle.least_time.specs.Times.{Times, Level, Jumped, Closes, Waited}
 
@@ -261,25 +259,23 @@ module _ {P : LabelledSystem} {y lo hi : ℕ} {level queue : List ℕ} (J : Join
     }
 
 -- the first level: the start alone, at 0
-module _ (P : LabelledSystem) (level queue : List ℕ) (zero : (p : ℕ) → get_or level p 0 ≡ 0) (limit : length level ≤ max_states)
-    (same : length queue ≡ length level) (size : length level ≡ P.system.size) (start : ℕ) (is : P.system.start ≡ start) (b : start < length level) where
-  only : TakesAll 0 (λ p. p ≡ start) level (set level start 1) queue (set queue 0 start) 0 1
-  only = start_taken level queue start zero limit same b
+module _ (P : LabelledSystem) {level level' queue queue' : List ℕ} {n : ℕ} (zero : (p : ℕ) → get_or level p 0 ≡ 0) (size : length level ≡ P.system.size)
+    {start : ℕ} (is : P.system.start ≡ start) (A : TakesAll 0 (λ p. p ≡ start) level level' queue queue' 0 n) where
+  first_some : (p t : ℕ) → get_or level' p 0 ≡ t + 1 → Timed P P.system.start p t
+  first_some p t e = ⊎_elim (λ k. absurd (omega (arith, zero p))) (λ (z, d, c). let x : 0 ≡ t = omega arith in rw (is, c, ← x) Timed.stop) (A.takes.each p)
 
-  at_start : get_or (set level start 1) start 0 ≡ 1
-  at_start = get_or-set_same level start 1 0 b
-
-  first_some : (p t : ℕ) → get_or (set level start 1) p 0 ≡ t + 1 → Timed P P.system.start p t
-  first_some p t e = ⊎_elim (λ k. absurd (omega (arith, zero p))) (λ (z, d, c). let x : 0 ≡ t = omega arith in rw (is, c, ← x) Timed.stop) (only.takes.each p)
-
-  pub searched_first : Searched P 0 0 1 (set level start 1) (set queue 0 start)
+  pub searched_first : Searched P 0 0 n level' queue'
   searched_first = record {
-    fits = only.takes.fits;
-    at = record { low = λ i l. absurd (omega arith); now = λ i k l. only.takes.fresh i k l };
+    fits = A.takes.fits;
+    at = record { low = λ i l. absurd (omega arith); now = A.takes.fresh };
     ends = (omega arith, omega arith);
-    size = only.takes.long ∙ size;
-    started = rw is at_start;
+    size = A.takes.long ∙ size;
+    started = rw is (start_level (λ p q. ⊥) zero A);
     some = first_some;
-    jumps = λ p q h k. absurd (omega arith);
-    units = λ p q h k. absurd (omega arith);
+    jumps = λ p q h k. absurd (below p h k (A.takes.each p));
+    units = λ p q h k. absurd (below p h k (A.takes.each p));
   }
+    where
+      below : (p : ℕ) → 0 < get_or level' p 0 → get_or level' p 0 ≤ 0
+          → (get_or level' p 0 ≡ get_or level p 0) ⊎ ((get_or level p 0 ≡ 0) × (get_or level' p 0 ≡ 0 + 1) × (p ≡ start)) → ⊥
+      below p h k e = omega arith

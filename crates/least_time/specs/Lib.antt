@@ -2,3 +2,5 @@
 pub mod LeastTime
 -- What the search by levels promises of its arrays.
 pub mod Times
+-- Where a unit of waiting leads.
+pub mod Waiting

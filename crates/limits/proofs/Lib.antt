@@ -1,2 +1,2 @@
--- A slice that a loop fills with zeros.
+-- Lists of zeros.
 pub mod Zeros

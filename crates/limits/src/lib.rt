@@ -1,11 +1,9 @@
 // Every limit of a plan, and the numbers that follow from them: the one place where they stand. Each number stands here twice, as a constant and under
-// specs/Limits, which is what contracts name; module `agree` shows that the two are one.
+// specs/Limits, which is what contracts name; module `agree` shows that the two are one, so that a constant that is changed alone is refused.
 #![tactic(auto)]
 
 mod agree;
-pub mod cast;
 pub mod refusal;
-pub mod zero;
 
 // What holds a state number: elements of scratch, distances, sheet numbers, places in a list of steps.
 pub type Word = u16;

@@ -6,39 +6,35 @@ ghost use Rattle.theory.specs.Below.{bit};
 ghost use Rattle.robust.specs.Margin.{half_values, entry_limits, entries_by, entries_of, margin as margin_of, max_factor, max_values};
 ghost use Rattle.region.specs.Limits.{Clocks};
 ghost use Rattle.limits.specs.Limits.{max_clocks, max_ceiling, max_edges};
-ghost use Rattle.model.specs.Model.{Lawful, target_of};
+ghost use Rattle.model.specs.Model.{target_of};
 ghost use Rattle.graph.specs.Plan.{automaton_of, edge_of};
 ghost use Rattle.margin.specs.Limits.{stay_limit, entry_limit};
 
-use model::Model;
-
-fn lower(a: u32, b: u32) -> u32
-    ensures { result ≡ min a b }
-{
-    if a < b { a } else { b }
-}
+use model::Plan;
 
 // ---- Limits.
 
-fn stay_limit(m: Model, l: usize, x: usize) -> u32
-    requires { Lawful m × (l < m.locations) × (x < max_clocks) }
-    ensures { (result ≡ stay_limit m l x) × (result ≤ max_ceiling) }
+fn stay_limit(plan: &Plan, l: usize, x: usize) -> u32
+    requires { let m = plan.now.model in (l < m.locations) × (x < max_clocks) }
+    ensures { let m = plan.now.model in (result ≡ stay_limit m l x) × (result ≤ max_ceiling) }
 {
-    m.invariant[model::STRIDE * l + x] as u32
+    let m = &plan.model;
+    u32::from(m.invariant[model::STRIDE * l + x])
 }
 
 // What a jump along an edge leaves on a clock at most.
-fn entry_limit(m: Model, e: usize, x: usize) -> u32
-    requires { Lawful m × (e < m.edges) × (x < max_clocks) }
-    ensures { (result ≡ entry_limit m e x) × (result ≤ max_ceiling) }
+fn entry_limit(plan: &Plan, e: usize, x: usize) -> u32
+    requires { let m = plan.now.model in (e < m.edges) × (x < max_clocks) }
+    ensures { let m = plan.now.model in (result ≡ entry_limit m e x) × (result ≤ max_ceiling) }
 {
+    let m = &plan.model;
     if (m.reset[e] >> x) % 2 == 1 {
         return 0;
     }
-    let high = m.upper[model::STRIDE * e + x] as u32;
-    let here = stay_limit(m, m.source[e] as usize, x);
-    let there = stay_limit(m, m.target[e] as usize, x);
-    lower(high, lower(here, there))
+    let high = u32::from(m.upper[model::STRIDE * e + x]);
+    let here = stay_limit(plan, usize::from(m.source[e]), x);
+    let there = stay_limit(plan, usize::from(m.target[e]), x);
+    high.min(here.min(there))
 }
 
 // ---- Half values within limits.
@@ -58,83 +54,83 @@ fn half_values(clocks: u8, a: u32, b: u32, c: u32) -> u32
     factor(clocks, 0, a) * (factor(clocks, 1, b) * factor(clocks, 2, c))
 }
 
-fn stay_values(m: Model, l: usize) -> u32
-    requires { Lawful m × (l < m.locations) }
-    ensures { (result ≡ half_values ((automaton_of m).invariant l)) × (result ≤ max_values) }
+fn stay_values(plan: &Plan, l: usize) -> u32
+    requires { let m = plan.now.model in (l < m.locations) }
+    ensures { let m = plan.now.model in (result ≡ half_values ((automaton_of m).invariant l)) × (result ≤ max_values) }
 {
+    let m = &plan.model;
     half_values(
         m.clocks,
-        stay_limit(m, l, 0),
-        stay_limit(m, l, 1),
-        stay_limit(m, l, 2),
+        stay_limit(plan, l, 0),
+        stay_limit(plan, l, 1),
+        stay_limit(plan, l, 2),
     )
 }
 
-fn entry_values(m: Model, e: usize) -> u32
-    requires { Lawful m × (e < m.edges) }
-    ensures { (result ≡ half_values (entry_limits (automaton_of m) (edge_of m e))) × (result ≤ max_values) }
+fn entry_values(plan: &Plan, e: usize) -> u32
+    requires { let m = plan.now.model in (e < m.edges) }
+    ensures { let m = plan.now.model in (result ≡ half_values (entry_limits (automaton_of m) (edge_of m e))) × (result ≤ max_values) }
 {
+    let m = &plan.model;
     half_values(
         m.clocks,
-        entry_limit(m, e, 0),
-        entry_limit(m, e, 1),
-        entry_limit(m, e, 2),
+        entry_limit(plan, e, 0),
+        entry_limit(plan, e, 1),
+        entry_limit(plan, e, 2),
     )
 }
 
 // ---- Entries of a location.
 
-fn by_start(m: Model, l: usize) -> u32
-    requires { Lawful m × (l < m.locations) }
-    ensures { (result ≡ bit (eqb l m.start)) × (result ≤ 1) }
+fn by_start(plan: &Plan, l: usize) -> u32
+    requires { let m = plan.now.model in (l < m.locations) }
+    ensures { let m = plan.now.model in (result ≡ bit (eqb l m.start)) × (result ≤ 1) }
 {
-    if l == m.start as usize { 1 } else { 0 }
+    let m = &plan.model;
+    u32::from(l == usize::from(m.start))
 }
 
 // The count with the entries by an edge, if it leads to the location.
-fn with_edge(m: Model, l: usize, e: usize, count: u32) -> u32
-    requires { Lawful m × (e < m.edges) × (count ≤ max_edges * max_values) }
-    ensures { (result ≡ cond (eqb (target_of m e) l) (half_values (entry_limits (automaton_of m) (edge_of m e)) + count) count)
-        × (result ≤ max_values + count) }
+fn with_edge(plan: &Plan, l: usize, e: usize, count: u32) -> u32
+    requires { let m = plan.now.model in (e < m.edges) × (count ≤ max_edges * max_values) }
+    ensures { let m = plan.now.model in (result ≡ cond (eqb (target_of m e) l) (half_values (entry_limits (automaton_of m) (edge_of m e)) + count) count) × (result ≤ max_values + count) }
 {
-    if m.target[e] as usize == l {
-        return entry_values(m, e) + count;
+    let m = &plan.model;
+    if usize::from(m.target[e]) == l {
+        return entry_values(plan, e) + count;
     }
     count
 }
 
 // By the start and the edges, from the last to the first.
-fn entries_by(m: Model, l: usize) -> u32
-    requires { Lawful m × (l < m.locations) }
-    ensures { result ≡ entries_by (automaton_of m) l (automaton_of m).edges }
+fn entries_by(plan: &Plan, l: usize) -> u32
+    requires { let m = plan.now.model in (l < m.locations) }
+    ensures { let m = plan.now.model in result ≡ entries_by (automaton_of m) l (automaton_of m).edges }
 {
-    let mut count = by_start(m, l);
-    let mut e = m.edges as usize;
-    while 0 < e {
-        e -= 1;
-        count = with_edge(m, l, e, count);
+    let m = &plan.model;
+    let mut count = by_start(plan, l);
+    for e in (0..usize::from(m.edges)).rev() {
+        count = with_edge(plan, l, e, count);
     }
     count
 }
 
-fn entries_of(m: Model, l: usize) -> u32
-    requires { Lawful m × (l < m.locations) }
-    ensures { (result ≡ entries_of (automaton_of m) l) × (result ≤ max_values) }
+#[tactic(auto, unfolding(robust::specs::Margin::entries_of))]
+fn entries_of(plan: &Plan, l: usize) -> u32
+    requires { let m = plan.now.model in (l < m.locations) }
+    ensures { let m = plan.now.model in (result ≡ entries_of (automaton_of m) l) × (result ≤ max_values) }
 {
-    lower(stay_values(m, l), entries_by(m, l))
+    stay_values(plan, l).min(entries_by(plan, l))
 }
 
 // Every drift e/D below 1/A is harmless for ever if the plan is safe: the number A of a model.
-pub fn margin(m: Model) -> u32
-    requires { Lawful m }
-    ensures { result ≡ margin_of (automaton_of m) m.locations }
+pub fn margin(plan: &Plan) -> u32
+    ensures { let m = plan.now.model in result ≡ margin_of (automaton_of m) m.locations }
 {
-    let locations = m.locations as usize;
+    let m = &plan.model;
     let mut count = 0;
-    let mut l = 0;
-    while l < locations {
-        count += entries_of(m, l);
-        l += 1;
+    for l in 0..usize::from(m.locations) {
+        count += entries_of(plan, l);
     }
-    2 * count + m.clocks as u32
+    2 * count + u32::from(m.clocks)
 }

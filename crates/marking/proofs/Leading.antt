@@ -7,17 +7,19 @@ use Prim.Native.Nat.{ℕ, ◌+◌, ◌*◌, ◌/◌, ◌%◌, ◌<◌}
 use native.Mathlib.Omega.{arith}
 use native.Mathlib.Numerals.{add-one}
 use native.Mathlib.Nat.{div-add-mod', mod-lt}
-use lib.ListN.{get_or}
+use lib.ListN.{length, get_or}
 use Rattle.theory.proofs.Pairs.{pair_left, pair_right}
 use Rattle.limits.specs.Limits.{slot_count}
 use Rattle.shapes.specs.Layout.{rows_in, faces_in, corners_in}
 use Rattle.theory.specs.Adjacency.{Adjacent}
-use Rattle.search.specs.Queue.{TakesAll, InList}
-use Rattle.theory.proofs.Rows.{rows_below}
-use Rattle.search.proofs.Queue.{takes_then, takes_widen, takes_reached}
+use Rattle.search.specs.Queue.{TakesAll, InList, row_of}
+use Rattle.theory.proofs.Rows.{rows_length, rows_below}
+use Rattle.search.proofs.Rows.{part_in, part_out, row_below}
+use Rattle.search.proofs.Queue.{takes_then, takes_widen, takes_same, takes_reached}
 use Rattle.marking.specs.Tables.{RegionTables, Successor, to_successor, to_face, to_touched}
 use Rattle.marking.specs.Corners.{Touches}
 use Rattle.shapes.proofs.Parts.{corners_long}
+use Rattle.marking.proofs.Corners.{location_states}
 
 -- the places of the faces of region i, for the states that begin at `base`
 abbrev pub FacesOf : ℕ → List ℕ → ℕ → ℕ → ℕ → Type 0
@@ -87,6 +89,20 @@ module _ {touch : Bool} {S R : ℕ} {shapes heights : List ℕ} (Z : RegionTable
             closed = h;
           };
         }))
+
+  -- the faces stand in a row of the tables
+  pub faces_below : p < S → (i : ℕ) → i < length (row_of (rows_in R shapes) (faces_in R shapes) (p % R))
+      → p / R * R + get_or (row_of (rows_in R shapes) (faces_in R shapes) (p % R)) i 0 < S
+  faces_below b i h = omega (arith, row_below Z.faces.face region_below i h, location_states Z (p / R) (location_below b))
+
+  pub faces_taken : {x : ℕ} {f f' o o' : List ℕ} {n n' : ℕ}
+      → TakesAll x (InList (row_of (rows_in R shapes) (faces_in R shapes) (p % R)) (p / R * R) 0 (length (row_of (rows_in R shapes) (faces_in R shapes) (p % R)))) f f' o o' n n'
+      → TakesAll x (FacesOf R shapes (p / R * R) (p % R)) f f' o o' n n'
+  faces_taken A =
+      let e = rows_length Z.faces.face (p % R) region_below in
+      let a = get_or (rows_in R shapes) (p % R) 0 in
+      let b = get_or (rows_in R shapes) (p % R + 1) 0 in
+      takes_same A (part_in (faces_in R shapes) a b e (λ v q. p / R * R + v ≡ q)) (part_out (faces_in R shapes) a b e (λ v q. p / R * R + v ≡ q))
 
   -- one after the other
   pub leads_all : {first targets : List ℕ} {x : ℕ} {f₀ f₁ f₂ f₃ o₀ o₁ o₂ o₃ : List ℕ} {n₀ n₁ n₂ n₃ : ℕ}

@@ -6,5 +6,7 @@ pub mod Corners
 pub mod Leading
 -- What the tables lead to is what the system's steps lead to; the marked states are those that are reached.
 pub mod Steps
+-- What a method asks of the tables.
+pub mod Along
 -- The least distance of a forbidden state.
 pub mod LeastDistance

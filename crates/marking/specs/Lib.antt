@@ -4,3 +4,5 @@
 pub mod Tables
 -- The states that have a corner at a point, and the flags of points.
 pub mod Corners
+-- What the methods of the tables promise.
+pub mod Along

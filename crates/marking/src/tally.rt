@@ -1,15 +1,14 @@
 // What the distances tell: how many states are marked, and the fewest steps that lead into a forbidden location.
 
-ghost use Rattle.std.specs.Prelude.{◌≡◌, ℕ, ◌*◌, ◌/◌, ◌≤◌, ◌<◌, length, get_or, eqb};
+ghost use Rattle.std.specs.Prelude.{◌≡◌, ◌*◌, ◌≤◌, ◌<◌, length, unwrap_or, IfSome};
 ghost use Rattle.theory.specs.Below.{count};
 ghost use Rattle.theory.specs.System.{System, Laws};
 ghost use Rattle.theory.specs.Marked.{marks};
 ghost use Rattle.theory.specs.Trail.{trail_steps};
-ghost use Rattle.search.specs.Lowest.{Lower};
 ghost use Rattle.marking.specs.Tables.{Distances, Forbids};
 
 use limits::Word;
-use limits::cast::from_word;
+use search::lower_distance;
 
 // How many states are marked.
 pub fn count_marked(distance: &[Word]) -> usize
@@ -18,34 +17,19 @@ pub fn count_marked(distance: &[Word]) -> usize
     search::count_reached(distance)
 }
 
-// The lower of d and the distance of p, if p is marked and forbidden.
-fn lower(distance: &[Word], kind: &[u8], regions: usize, p: usize, d: usize) -> usize
-    requires { (0 < regions) × (p < length distance.now) × (p / regions < length kind.now) }
-    ensures { Lower (λ y. eqb (get_or kind.now (y / regions) 0) 1) (λ y. get_or distance.now y 0) p d result }
-{
-    let y = from_word(distance[p]);
-    if y == 0 {
-        return d;
-    }
-    if d < y {
-        return d;
-    }
-    if kind[p / regions] == 1 {
-        return y - 1;
-    }
-    d
-}
-
-// The least distance of a marked state that is forbidden, or the number of states.
-pub fn fewest(distance: &[Word], kind: &[u8], regions: usize) -> usize
+// The least distance of a marked state that is forbidden, if there is one.
+pub fn fewest(distance: &[Word], kind: &[u8], regions: usize) -> Option<usize>
     requires { (0 < regions) × (length distance.now ≤ length kind.now * regions) }
-    ensures { (Y : System) → Laws Y → Distances Y distance.now → Forbids Y regions kind.now → result ≡ trail_steps Y }
+    ensures value { (Y : System) → Laws Y → Distances Y distance.now → Forbids Y regions kind.now
+        → unwrap_or result (length distance.now) ≡ trail_steps Y }
+    ensures below { (Y : System) → Laws Y → Distances Y distance.now → Forbids Y regions kind.now
+        → IfSome result (λ d. d < length distance.now) }
 {
-    let mut d = distance.len();
-    let mut p = 0;
-    while p < distance.len() {
-        d = lower(distance, kind, regions, p, d);
-        p += 1;
+    let mut best = None;
+    for p in 0..distance.len() {
+        if kind[p / regions] == 1 {
+            best = lower_distance(best, distance[p]);
+        }
     }
-    d
+    best
 }

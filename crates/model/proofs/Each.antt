@@ -67,9 +67,6 @@ some_none t = each_none _ _
 pub some_more : (t : ℕ → Bool) (n : ℕ) (r : Bool) → r ≡ some_below n t → (t n || r) ≡ some_below (n + 1) t
 some_more t n r e = each_more (λ i s. t i || s) n false r e
 
-pub some_done : (t : ℕ → Bool) (n k : ℕ) (r : Bool) → r ≡ some_below k t → k ≤ n → n ≤ k → r ≡ some_below n t
-some_done t n k r e p q = each_done (λ i s. t i || s) n k false r e p q
-
 -- a test that holds everywhere
 
 all_sound : (t : ℕ → Bool) (n : ℕ) → all_below n t ≡ true → (i : ℕ) → i < n → t i ≡ true
@@ -89,12 +86,3 @@ all_complete t (suc n) h = rw (h n (omega arith)) (all_complete t n (λ i l. h i
 
 pub all_law : (n : ℕ) (t : ℕ → Bool) → (all_below n t ≡ true) ↔ ((i : ℕ) → i < n → t i ≡ true)
 all_law n t = (all_sound t n, all_complete t n)
-
-pub all_none : (t : ℕ → Bool) → true ≡ all_below 0 t
-all_none t = each_none _ _
-
-pub all_more : (t : ℕ → Bool) (n : ℕ) (r : Bool) → r ≡ all_below n t → (t n && r) ≡ all_below (n + 1) t
-all_more t n r e = each_more (λ i s. t i && s) n true r e
-
-pub all_done : (t : ℕ → Bool) (n k : ℕ) (r : Bool) → r ≡ all_below k t → k ≤ n → n ≤ k → r ≡ all_below n t
-all_done t n k r e p q = each_done (λ i s. t i && s) n k true r e p q

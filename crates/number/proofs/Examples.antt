@@ -1,11 +1,9 @@
 -- Worked examples of the definitions, by computing.
 use mathlib.Core.Path.{◌≡◌, refl}
 use mathlib.Core.List.{[], ◌∷◌}
-use Rattle.number.specs.declared.Number.TheVariants.{Value, Refused}
-use Rattle.number.specs.declared.Spelled.TheVariants.{Shortest, Padded}
-use Rattle.number.specs.Number.{read_number, spell}
-use Rattle.number.specs.Shortest.{read_spelled}
-use Rattle.number.specs.declared.Spelled.TheVariants as spelled
+use Rattle.number.specs.Number.{Value, Refused, read_number, spell}
+use Rattle.number.specs.Shortest.{Shortest, Padded, read_spelled}
+use Rattle.number.specs.Shortest as spelled
 
 -- "5 and 133,0 both read as 5"; "bytes 133,128,0 read as 5, 133,128,128 refused by 2"
 five : read_number (5 ∷ []) 0 ≡ Value 5 1

@@ -10,9 +10,7 @@ use lib.ListN.{length, get_or, drop, length-append, length-drop}
 use lib.Seq.{drop-cons, get_or-drop}
 use lib.Dec.{ltb, eqb}
 use borrow.Author.Tests.{lt-ltb, le-ltb, ltb-true, ltb-false, eqb-true, eqb-false}
-use Rattle.number.specs.declared.Number.{Number}
-use Rattle.number.specs.declared.Number.TheVariants.{Value, Refused}
-use Rattle.number.specs.Number.{last, more, Spells, EndsTooSoon, ThirdTopBit, group, read_number}
+use Rattle.number.specs.Number.{Number, Value, Refused, last, more, Spells, EndsTooSoon, ThirdTopBit, group, read_number}
 
 -- a property of both branches is one of the choice
 pub cond_ind : {A : Type 0} (P : A → Type 0) (t : Bool) {x y : A} → (t ≡ true → P x) → (t ≡ false → P y) → P (cond t x y)

@@ -8,9 +8,8 @@ use mathlib.Core.List.Memᴰ
 use mathlib.Core.List.{List, [], ◌∷◌, ◌++◌, Memᴰ}
 use lib.ListN.{length, take, drop, replicate, length-drop, length-append, drop_of_length-le}
 use lib.Seq.{drop-drop, drop-append_seam, take-append-add, get_or-drop}
-use Rattle.number.specs.declared.Number.{Number}
-use Rattle.number.specs.declared.Number.TheVariants.{Value, Refused}
-use Rattle.number.specs.Number.{Spells, read_number, on_number, spell, spell_all}
+use Rattle.std.proofs.lemmas.List.{drop-take}
+use Rattle.number.specs.Number.{Number, Value, Refused, Spells, read_number, on_number, spell, spell_all}
 use Rattle.number.specs.Shortest.{AreBytes}
 use Rattle.number.specs.Sequence.{SpelledBy, SpellsAll, SpellsShortest}
 use Rattle.number.proofs.Laws.{Sound, sound, read_value, read_short, read_long, spells_some, spells_bound}
@@ -87,14 +86,6 @@ module _ {read : List ℕ → ℕ → Number} {bs : List ℕ} where
   pub reads_end : {at end : ℕ} → ReadsBy read bs at [] end → at ≡ end
   reads_end none = refl
 
--- up to an offset
-drop-take : (bs : List ℕ) (n i : ℕ) → i ≤ length bs → i ≤ n → drop i (take n bs) ≡ take (n - i) (drop i bs)
-drop-take bs n zero h k = ap (λ j. take j bs) (let z : n ≡ n - 0 = omega arith in z)
-drop-take [] n (suc i) h k = absurd (omega arith)
-drop-take (b ∷ bs) zero (suc i) h k = absurd (omega arith)
-drop-take (b ∷ bs) (suc n) (suc i) h k =
-    drop-take bs n i (omega arith) (omega arith) ∙ ap (λ j. take j (drop i bs)) (let z : n - i ≡ suc n - suc i = omega arith in z)
-
 -- what follows a number
 pub rest_at : (bs : List ℕ) (at : ℕ) (g rest : List ℕ) → drop at bs ≡ g ++ rest → drop (at + length g) bs ≡ rest
 rest_at bs at g rest e = sym (drop-drop (length g) at bs) ∙ ap (drop (length g)) e ∙ drop-append_seam g rest
@@ -122,7 +113,7 @@ module _ {read : List ℕ → ℕ → Number} {R : List ℕ → ℕ → Type 0} 
         let (g, rest, d, s, q) = (L.value bs at v to).0 e in
         let (a, b) = read_within in
         let split : drop at (take n bs) ≡ g ++ take (n - to) rest
-        = drop-take bs n at (omega arith) (omega arith) ∙ ap (take (n - at)) d
+        = ap (λ (k : ℕ). drop at (take k bs)) (let z : n ≡ at + (n - at) = omega arith in z) ∙ drop-take at (n - at) bs ∙ ap (take (n - at)) d
         ∙ ap (λ (k : ℕ). take k (g ++ rest)) (let z : n - at ≡ length g + (n - to) = omega arith in z)
         ∙ take-append-add g rest (n - to) in
         (L.value (take n bs) at v to).1 (g, take (n - to) rest, split, s, q)

@@ -9,14 +9,11 @@ use mathlib.Core.Bool.{cond}
 use lib.ListN.{length, drop}
 use lib.Dec.{eqb}
 use borrow.Author.Tests.{eq-eqb, ne_eqb, eqb-true, eqb-false}
-use Rattle.number.specs.declared.Number.{Number}
-use Rattle.number.specs.declared.Spelled.{Spelled}
-use Rattle.number.specs.declared.Spelled.TheVariants.{Shortest, Padded, Refused}
-use Rattle.number.specs.Number.{Spells, read_number, on_number, spell}
-use Rattle.number.specs.Shortest.{ShortestForm, PaddedForm, AreBytes, read_spelled, number_in}
+use Rattle.number.specs.Number.{Number, Spells, read_number, on_number, spell}
+use Rattle.number.specs.Shortest.{Spelled, Shortest, Padded, Refused, ShortestForm, PaddedForm, AreBytes, read_spelled, number_in}
 use Rattle.number.proofs.Laws.{cond_ind, spells_ind, spells_bound, read_value}
 use Rattle.number.proofs.Spelling.{spell_ind, spell_1, spell_spells, spell_shortest}
-use Rattle.number.specs.declared.Number.TheVariants as number
+use Rattle.number.specs.Number as number
 
 -- ---- the two forms
 

@@ -7,8 +7,7 @@ use lib.ListN.{length, get_or, replicate, length-append}
 use lib.Seq.{drop-append_seam}
 use lib.Dec.{ltb}
 use borrow.Author.Tests.{lt-ltb, le-ltb, ltb-true, ltb-false}
-use Rattle.number.specs.declared.Number.TheVariants.{Value}
-use Rattle.number.specs.Number.{last, more, Spells, read_number, spell, spell_all}
+use Rattle.number.specs.Number.{Value, last, more, Spells, read_number, spell, spell_all}
 use Rattle.number.proofs.Laws.{cond_ind, spells_ind, read_value}
 
 pub spell_1 : (v : ℕ) → v < 128 → spell v ≡ v ∷ []

@@ -1,8 +1,24 @@
 -- 01: "A number is one to three groups of seven bits, lowest group first, one per byte; the byte's top bit says that another follows."
 -- First the paper's form, as relations, then the executable form.
-use Rattle.std.specs.Prelude.{ℕ, suc, ◌+◌, ◌*◌, ◌/◌, ◌%◌, ◌≤◌, ◌<◌, List, [], ◌∷◌, ◌++◌, cond, length, get_or, ltb}
-use Rattle.number.specs.declared.Number.{Number}
-use Rattle.number.specs.declared.Number.TheVariants.{Value, Refused}
+use Rattle.std.specs.Prelude.{ℕ, ⊤, suc, ◌+◌, ◌*◌, ◌/◌, ◌%◌, ◌≤◌, ◌<◌, List, [], ◌∷◌, ◌++◌, cond, length, get_or, ltb}
+use Rattle.limits.specs.Refusal.{code_of}
+use Rattle.number.specs.declared.Number as declared
+use Rattle.number.specs.declared.Number.TheVariants as code
+
+-- what reading a number finds: its value and the position after it, or the number of its refusal
+pub data Number : Type 0 where
+  Value : ℕ → ℕ → Number
+  Refused : ℕ → Number
+
+-- what the code finds, its refusal by number
+abbrev pub numbered : declared.Number → Number
+numbered (code.Value v p) = Value v p
+numbered (code.Refused r) = Refused (code_of r)
+
+-- it finds no value
+abbrev pub is_refused : declared.Number → Type 0
+is_refused (code.Value v p) = ⊥
+is_refused (code.Refused r) = ⊤
 
 -- bytes that are at most so many groups, with the value that they have
 pub data Groups : ℕ → List ℕ → ℕ → Type 0 where

@@ -1,11 +1,23 @@
 -- 02 (b): "The number reader .. shall tell with each number whether the form was shortest". First the paper's form, then the executable form.
 use Rattle.std.specs.Prelude.{ℕ, ◌+◌, ◌≤◌, ◌<◌, cond, length, eqb}
 use mathlib.Core.List.{List, Memᴰ}
-use Rattle.number.specs.declared.Number.{Number}
-use Rattle.number.specs.declared.Spelled.{Spelled}
-use Rattle.number.specs.declared.Spelled.TheVariants.{Shortest, Padded, Refused}
-use Rattle.number.specs.Number.{Spells, read_number, on_number, spell}
-use Rattle.number.specs.declared.Number.TheVariants as number
+use Rattle.limits.specs.Refusal.{code_of}
+use Rattle.number.specs.Number.{Number, Spells, read_number, on_number, spell}
+use Rattle.number.specs.Number as number
+use Rattle.number.specs.declared.Spelled as declared
+use Rattle.number.specs.declared.Spelled.TheVariants as code
+
+-- the same, and whether the form was shortest
+pub data Spelled : Type 0 where
+  Shortest : ℕ → ℕ → Spelled
+  Padded : ℕ → ℕ → Spelled
+  Refused : ℕ → Spelled
+
+-- what the code tells, its refusal by number
+abbrev pub told : declared.Spelled → Spelled
+told (code.Shortest v p) = Shortest v p
+told (code.Padded v p) = Padded v p
+told (code.Refused r) = Refused (code_of r)
 
 -- "in shortest form": bytes that spell the number, and no spelling of it has fewer
 pub record ShortestForm (g : List ℕ) (v : ℕ) : Type 0 where

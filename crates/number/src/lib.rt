@@ -3,67 +3,73 @@
 
 ghost use Rattle.std.specs.Prelude.{◌≡◌, ◌+◌, ◌<◌, ◌≤◌, ◌^◌, length};
 ghost use Rattle.std.proofs.lemmas.List.Edits.{sets};
-ghost use Rattle.number.specs.Number.{read_number, number_refusal, spell};
-ghost use Rattle.number.specs.Shortest.{read_spelled};
+ghost use Rattle.number.specs.Number.{numbered, is_refused, read_number, spell};
+ghost use Rattle.number.specs.Shortest.{told, read_spelled};
 
-use limits::refusal::{ENDS_TOO_SOON, THIRD_TOP_BIT};
+use limits::refusal::Refusal;
 
-// What reading a number finds: its value and the offset after it, or the refusal, 1 or 2.
-#[derive(Clone, Copy)]
+// What reading a number finds: its value and the offset after it, or the refusal.
+// No Result: at each number a `let .. else` shows the way out by its refusal.
+#[derive(Clone, Copy, Debug, PartialEq, Eq)]
 pub enum Number {
     Value(u32, usize),
-    Refused(u8),
+    Refused(Refusal),
 }
 
-// The same, and whether the form was shortest.
-#[derive(Clone, Copy)]
+// The same, and whether the form was shortest: three cases, so no Result.
+#[derive(Clone, Copy, Debug, PartialEq, Eq)]
 pub enum Spelled {
     Shortest(u32, usize),
     Padded(u32, usize),
-    Refused(u8),
+    Refused(Refusal),
+}
+
+impl Number {
+    // The refusal, where there is no value.
+    pub fn refusal(self) -> Refusal
+        requires { is_refused self }
+        ensures { self ≡ Number.Refused result }
+    {
+        match self {
+            Number::Value(_, _) => unreachable!(),
+            Number::Refused(r) => r,
+        }
+    }
 }
 
 // The number at an offset.
+#[tactic(auto, unfolding(crate::specs::Number::read_number))]
 pub fn read(bytes: &[u8], at: usize) -> Number
-    ensures { result ≡ read_number bytes.now at }
+    ensures { numbered result ≡ read_number bytes.now at }
 {
-    if bytes.len() <= at {
-        return Number::Refused(ENDS_TOO_SOON);
-    }
-    let first = bytes[at] as u32;
+    let Some(&first) = bytes.get(at) else {
+        return Number::Refused(Refusal::EndsTooSoon);
+    };
+    let first = u32::from(first);
     let at2 = at + 1;
     if first < 128 {
         return Number::Value(first, at2);
     }
-    if bytes.len() <= at2 {
-        return Number::Refused(ENDS_TOO_SOON);
-    }
-    let second = bytes[at2] as u32;
+    let Some(&second) = bytes.get(at2) else {
+        return Number::Refused(Refusal::EndsTooSoon);
+    };
+    let second = u32::from(second);
     let at3 = at2 + 1;
     if second < 128 {
         return Number::Value(first % 128 + 128 * second, at3);
     }
-    if bytes.len() <= at3 {
-        return Number::Refused(ENDS_TOO_SOON);
-    }
-    let third = bytes[at3] as u32;
+    let Some(&third) = bytes.get(at3) else {
+        return Number::Refused(Refusal::EndsTooSoon);
+    };
+    let third = u32::from(third);
     if third < 128 {
         return Number::Value(first % 128 + 128 * (second % 128) + 16384 * third, at3 + 1);
     }
-    Number::Refused(THIRD_TOP_BIT)
-}
-
-// The refusal of a number, 0 where it has a value.
-pub fn refusal_of(n: Number) -> u8
-    ensures { result ≡ number_refusal n }
-{
-    match n {
-        Number::Value(_, _) => 0,
-        Number::Refused(r) => r,
-    }
+    Number::Refused(Refusal::ThirdTopBit)
 }
 
 // The number of bytes of a number's shortest form.
+#[tactic(auto, unfolding(crate::specs::Number::spell))]
 pub fn shortest_length(v: u32) -> usize
     ensures { result ≡ length (spell v) }
 {
@@ -77,8 +83,9 @@ pub fn shortest_length(v: u32) -> usize
 }
 
 // The number at an offset, told by its form.
+#[tactic(auto, using(crate::proofs::Sequence::value_within, crate::proofs::Shortest::told_shortest), unfolding(crate::specs::Shortest::read_spelled))]
 pub fn read_spelled(bytes: &[u8], at: usize) -> Spelled
-    ensures { result ≡ read_spelled bytes.now at }
+    ensures { told result ≡ read_spelled bytes.now at }
 {
     match read(bytes, at) {
         Number::Value(v, next) => {
@@ -92,6 +99,7 @@ pub fn read_spelled(bytes: &[u8], at: usize) -> Spelled
 }
 
 // Stores the shortest form of a number at an offset, and gives the offset after it.
+#[tactic(auto, unfolding(crate::specs::Number::spell))]
 pub fn write(out: &mut [u8], at: usize, v: u32) -> usize
     requires v_bound { v < 2 ^ 21 }
     requires v_in_bounds { at + length (spell v) ≤ length out.old }

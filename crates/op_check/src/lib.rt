@@ -2,32 +2,37 @@
 #![tactic(auto)]
 
 ghost use Rattle.std.specs.Prelude.{◌≡◌};
-ghost use Rattle.model.specs.Model.{Lawful};
-ghost use Rattle.graph.specs.States.{states};
-ghost use Rattle.evidence.specs.Evidence.{checked};
-ghost use Rattle.call.specs.Scratch.{lengths, Scratch, Zeroed, ScratchLeft};
+ghost use Rattle.evidence.specs.Evidence.{numbered};
+ghost use Rattle.call.specs.Scratch.{lengths, ScratchLeft};
 ghost use Rattle.op_check.specs.Check.{check_answer, evidence_answer};
 
+use call::{Operation, Scratch};
 pub use evidence::Evidence;
 use limits::Word;
-use model::Model;
+use limits::refusal::Refusal;
+use model::Plan;
 
-// With slices of just S numbers, which are zero afterwards.
-fn check_model(
-    m: Model,
-    evidence: &[u8],
-    s1: &mut [Word],
-    s2: &mut [Word],
-    s3: &mut [Word],
-    s4: &mut [Word],
-) -> Evidence
-    requires { Lawful m × Scratch (states m) s1.old s2.old s3.old s4.old }
-    ensures value { result ≡ checked m evidence.now }
-    ensures zeroed { Zeroed (states m) s1.new s2.new s3.new s4.new }
-{
-    let found = evidence::check(m, evidence, s1);
-    call::clear_all(s1, s2, s3, s4);
-    found
+// The check of these bytes as evidence.
+#[derive(Clone, Copy)]
+struct Checking<'a> {
+    evidence: &'a [u8],
+}
+
+impl<'a> Operation for Checking<'a> {
+    ghost use Rattle.evidence.specs.Evidence.{checked};
+    ghost use Rattle.op_check.specs.Check.{evidence_answer, evidence_values};
+
+    type Value = Evidence;
+
+    ghost values = { evidence_values };
+
+    ghost says = { λ c m _. evidence_answer (checked m c.evidence.now) };
+
+    ghost writes = { λ _ _ out. out };
+
+    fn run(&self, plan: &Plan, s: &mut Scratch, _out: &mut [u8]) -> Result<Evidence, Refusal> {
+        evidence::check(plan, self.evidence, s.first)
+    }
 }
 
 // 01: whether the second bytes are evidence that passes for the plan that the first spell, and of which kind; or a refusal, 1 to 8 for the plan, 1, 2, 6
@@ -39,24 +44,16 @@ pub fn check_evidence(
     s2: &mut [Word],
     s3: &mut [Word],
     s4: &mut [Word],
-) -> Evidence
-    ensures result_value { evidence_answer result ≡ check_answer bytes.now evidence.now (lengths s1.old s2.old s3.old s4.old) }
+) -> Result<Evidence, Refusal>
+    ensures result_value { evidence_answer (numbered result) ≡ check_answer bytes.now evidence.now (lengths s1.old s2.old s3.old s4.old) }
     ensures scratch_left { ScratchLeft bytes.now s1.old s2.old s3.old s4.old
         s1.new s2.new s3.new s4.new }
 {
-    let admitted = call::admit(bytes, s1.len(), s2.len(), s3.len(), s4.len());
-    let refusal = admitted.refusal;
-    if refusal != 0 {
-        return Evidence::Refused(refusal);
-    }
-    let m = admitted.model;
-    let s = admitted.states;
-    check_model(
-        m,
-        evidence,
-        &mut s1[..s],
-        &mut s2[..s],
-        &mut s3[..s],
-        &mut s4[..s],
-    )
+    let mut s = Scratch {
+        first: s1,
+        second: s2,
+        third: s3,
+        fourth: s4,
+    };
+    call::call(&Checking { evidence }, bytes, &mut s, &mut [])
 }

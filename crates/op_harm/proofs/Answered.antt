@@ -3,7 +3,6 @@ use Prim.Native.Nat.{ℕ}
 use mathlib.Core.Path.{◌≡◌, refl}
 use mathlib.Core.Bool.{Bool, true, false, cond}
 use mathlib.Core.List.{List, [], ◌∷◌}
-use borrow.Author.Tests.{ne_eqb}
 use Rattle.number.specs.Answer.{answer}
 use Rattle.theory.specs.Below.{bit}
 use Rattle.theory.specs.Marked.{unsafe}
@@ -13,18 +12,15 @@ use Rattle.graph.specs.States.{states}
 use Rattle.trail_delay.specs.Ours.{our_delay}
 use Rattle.outlook.specs.declared.Outlook.{Outlook}
 use Rattle.outlook.specs.Outlook.{outlook_for}
-use Rattle.call.specs.Call.{model_of, refusal}
-use Rattle.op_harm.specs.declared.Onset.TheVariants.{Refused}
-use Rattle.op_harm.specs.Harm.{harm_values, harm_in, harm_answer, onset_answer}
+use Rattle.call.specs.Admitted.{called}
+use Rattle.call.specs.Call.{model_of}
+use Rattle.call.proofs.Calls.{called_plain}
+use Rattle.op_harm.specs.Harm.{harm_values, harm_in, harm_answer}
 
-module _ (bytes lent : List ℕ) where
-  pub harm_refused : (r : ℕ) → refusal bytes lent ≡ r → (r ≡ 0 → ⊥) → onset_answer (Refused r) ≡ harm_answer bytes lent
-  unfolding onset_answer harm_answer answer
-  harm_refused r is ne = simp (is, ne_eqb r 0 ne) refl
-
-  pub harm_done : refusal bytes lent ≡ 0 → harm_answer bytes lent ≡ answer 0 (harm_values (model_of bytes))
-  unfolding harm_answer
-  harm_done is = simp is refl
+-- the answer, from what is said past number 8
+pub harm_said : (bytes lent : List ℕ) → called (answer 0 (harm_values (model_of bytes))) bytes lent ≡ harm_answer bytes lent
+unfolding harm_answer
+harm_said bytes lent = called_plain bytes lent _
 
 -- what is found gives the values
 pub found_values : (m : Model) (s : ℕ) (x : Outlook) → s ≡ states m → x ≡ outlook_for true m → harm_in s x ≡ harm_values m

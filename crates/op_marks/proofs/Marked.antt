@@ -1,8 +1,9 @@
 -- What the marks call says and leaves: refused, or a byte for each state from its distance.
 use Prim.Native.Nat.{ℕ, ◌≤◌, ◌<◌}
 use native.Mathlib.Omega.{arith}
-use mathlib.Core.Path.{◌≡◌, refl, ap}
-use mathlib.Core.Bool.{Bool}
+use mir.Val.{bool_byte}
+use mathlib.Core.Path.{◌≡◌, refl, sym, ap, ◌∙◌}
+use mathlib.Core.Bool.{Bool, true, false}
 use mathlib.Core.List.{List, [], ◌∷◌, ◌++◌}
 use lib.ListN.{length, get_or, drop}
 use lib.Dec.{ltb}
@@ -13,15 +14,20 @@ use Rattle.theory.specs.Marked.{marks}
 use Rattle.theory.specs.WithoutTouch.{with_touch}
 use Rattle.theory.proofs.Below.{is_table}
 use Rattle.theory.proofs.Levels.{mark-marks}
-use Rattle.number.specs.Answer.{answer}
 use Rattle.model.specs.declared.Model.{Model}
 use Rattle.graph.specs.Plan.{system_of_model}
 use Rattle.graph.specs.States.{states}
 use Rattle.graph.proofs.Plan.{size-states}
 use Rattle.marking.specs.Tables.{Distances}
-use Rattle.call.specs.Call.{model_of, states_of, refusal}
-use Rattle.op_marks.specs.declared.Marking.TheVariants.{Marked, Refused}
-use Rattle.op_marks.specs.Marks.{short, marks_refusal, marked, marks_of, marks_in, output, marking_answer}
+use Rattle.call.specs.Call.{model_of}
+use Rattle.call.specs.Admitted.{called, written}
+use Rattle.call.specs.Joint.{disjoint_for}
+use Rattle.call.proofs.Calls.{code_ne, passed_told, told, refused_told, called_answer}
+use Rattle.std.specs.Prelude.{Result, IsErrAnd}
+use Rattle.limits.specs.declared.refusal.Refusal.{Refusal}
+use Rattle.limits.specs.declared.refusal.Refusal.TheVariants.{OutputShort}
+use Rattle.limits.specs.Refusal.{code_of}
+use Rattle.op_marks.specs.Marks.{short, marks_refusal, marked, marks_of, marks_in, output, marking_values, marking_answer, marking_refusal, marking_says, marking_writes}
 
 -- with touch steps or without, a state has the same number
 pub touch_size : (touch : Bool) (m : Model) → (with_touch touch (system_of_model m)).size ≡ states m
@@ -29,6 +35,10 @@ unfolding with_touch
 touch_size touch m = size-states m
 
 -- ---- a byte for each state
+
+pub byte_bit : (b : Bool) → bool_byte b ≡ bit b
+byte_bit true = refl
+byte_bit false = refl
 
 module _ (Y : System) (L : Laws Y) where
   -- marks from distances
@@ -39,47 +49,53 @@ module _ (Y : System) (L : Laws Y) where
       is_table out Y.size (λ p. bit (marks Y p)) e
       (λ p b. rw (h p b, D.is p b, mark-marks Y L p) refl)
 
--- ---- with an output of any length
+-- ---- past number 8
 
-module _ (m : Model) (k : ℕ) where
-  pub answer_short : k < states m → marking_answer (Refused 9) ≡ answer (short k m) (states m ∷ [])
-  unfolding marking_answer answer
-  answer_short b = simp (lt-ltb k (states m) b) refl
+module _ (touch : Bool) (m : Model) where
+  pub refused_at : (k : ℕ) (x : Result ℕ Refusal) (r : Refusal) → IsErrAnd x (λ e. e ≡ r) → code_of r ≡ disjoint_for touch m
+      → marking_answer x ≡ marking_says touch k m
+  unfolding marking_says
+  refused_at k x r h e =
+      passed_told marking_values x r h
+      ∙ refused_told (marking_refusal touch k m) r (states m ∷ []) (simp (sym e, ne_eqb (code_of r) 0 (code_ne r)) refl)
 
-  pub answer_marked : (s : ℕ) → s ≡ states m → s ≤ k → marking_answer (Marked s) ≡ answer (short k m) (states m ∷ [])
-  unfolding marking_answer answer
-  answer_marked s e b =
-      let c : states m ≤ k = omega arith in
-      simp (le-ltb k (states m) c) (ap (λ (n : ℕ). record { number = 0; values = n ∷ [] }) e)
+  pub refused_alone : (out : List ℕ) (r : Refusal) → code_of r ≡ disjoint_for touch m → out ≡ marking_writes touch m out
+  unfolding marking_writes
+  refused_alone out r e = simp (sym e, ne_eqb (code_of r) 0 (code_ne r)) refl
 
-module _ (Y : System) (out : List ℕ) where
-  pub short_alone : length out < Y.size → out ≡ marks_in Y out
-  unfolding marks_in
-  short_alone b = simp (lt-ltb (length out) Y.size b) refl
+  module _ (z : 0 ≡ disjoint_for touch m) where
+    pub short_told : (k : ℕ) → k < states m → record { number = 9; values = [] } ≡ marking_says touch k m
+    unfolding marking_says
+    short_told k b = refused_told (marking_refusal touch k m) OutputShort (states m ∷ []) (simp (sym z, lt-ltb k (states m) b) refl)
 
-  pub marked_in : (s : ℕ) (xs : List ℕ) → s ≡ Y.size → s ≤ length out → xs ≡ marks_of Y → xs ++ drop s out ≡ marks_in Y out
-  unfolding marks_in
-  marked_in s xs e b f =
-      let c : Y.size ≤ length out = omega arith in
-      simp (le-ltb (length out) Y.size c) (rw (e, f) refl)
+    pub short_alone : (out : List ℕ) → length out < states m → out ≡ marking_writes touch m out
+    unfolding marking_writes marks_in
+    short_alone out b =
+        let c : length out < (with_touch touch (system_of_model m)).size = omega (arith, touch_size touch m) in
+        simp (sym z, lt-ltb (length out) (with_touch touch (system_of_model m)).size c) refl
+
+    pub marks_told : (k s : ℕ) → s ≡ states m → s ≤ k → record { number = 0; values = s ∷ [] } ≡ marking_says touch k m
+    unfolding marking_says
+    marks_told k s e b =
+        let c : states m ≤ k = omega arith in
+        told (marking_refusal touch k m) (s ∷ []) (states m ∷ []) (simp (sym z, le-ltb k (states m) c) refl) (ap (λ (n : ℕ). n ∷ []) e)
+
+    pub marks_put : (out : List ℕ) (s : ℕ) (xs : List ℕ) → s ≡ states m → s ≤ length out → xs ≡ marks_of (with_touch touch (system_of_model m))
+        → xs ++ drop s out ≡ marking_writes touch m out
+    unfolding marking_writes marks_in
+    marks_put out s xs e b f =
+        let Y = with_touch touch (system_of_model m) in
+        let g : s ≡ Y.size = e ∙ sym (touch_size touch m) in
+        let c : Y.size ≤ length out = omega arith in
+        simp (sym z, le-ltb (length out) Y.size c) (rw (g, f) refl)
 
 -- ---- a call
 
 module _ (bytes lent : List ℕ) where
-  module _ (r : ℕ) (is : refusal bytes lent ≡ r) (ne : r ≡ 0 → ⊥) where
-    pub marks_refused : (k : ℕ) → marking_answer (Refused r) ≡ marked bytes lent k
-    unfolding marking_answer marked marks_refusal answer
-    marks_refused k = simp (is, ne_eqb r 0 ne) refl
+  pub marks_said : (k : ℕ) → called (marking_says true k (model_of bytes)) bytes lent ≡ marked bytes lent k
+  unfolding marking_says marked marks_refusal
+  marks_said k = called_answer bytes lent _ _
 
-    pub output_alone : (xs : List ℕ) → xs ≡ output bytes lent xs
-    unfolding output
-    output_alone xs = simp (is, ne_eqb r 0 ne) refl
-
-  module _ (is : refusal bytes lent ≡ 0) where
-    pub marks_done : (k : ℕ) → marked bytes lent k ≡ answer (short k (model_of bytes)) (states_of bytes ∷ [])
-    unfolding marked marks_refusal
-    marks_done k = simp is refl
-
-    pub output_done : (xs : List ℕ) → output bytes lent xs ≡ marks_in (system_of_model (model_of bytes)) xs
-    unfolding output
-    output_done xs = simp is refl
+  pub marks_left : (xs : List ℕ) → written (marking_writes true (model_of bytes) xs) bytes lent xs ≡ output bytes lent xs
+  unfolding marking_writes output with_touch
+  marks_left xs = refl

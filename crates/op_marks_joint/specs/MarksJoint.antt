@@ -1,17 +1,11 @@
 -- 02 (g), the marks: "Marks, verdict and sheet are the full judge's".
 use Rattle.std.specs.Prelude.{cond, List, [], ◌∷◌, ℕ, eqb}
 use Rattle.theory.specs.WithoutTouch.{without_touch}
-use Rattle.model.specs.declared.Model.{Model}
 use Rattle.graph.specs.Plan.{system_of_model}
-use Rattle.edge_walks.specs.Joint.{lacks_joint_reset}
 use Rattle.number.specs.Answer.{Answer, answer}
 use Rattle.call.specs.Call.{model_of, states_of}
 use Rattle.call.specs.Joint.{joint_refusal}
 use Rattle.op_marks.specs.Marks.{short, marks_in}
-
--- past number 8: 17, then 9
-abbrev pub disjoint_or_short : ℕ → Model → ℕ
-disjoint_or_short room m = cond (lacks_joint_reset m) 17 (short room m)
 
 -- 1 to 8, 17; "9 is last"
 unfoldable pub joint_marks_refusal : List ℕ → List ℕ → ℕ → ℕ
@@ -21,8 +15,5 @@ unfoldable pub joint_marked : List ℕ → List ℕ → ℕ → Answer
 joint_marked bytes lent room = answer (joint_marks_refusal bytes lent room) (states_of bytes ∷ [])
 
 -- of the plans that are not refused, the marks of time, jump and face steps alone
-abbrev pub joint_marks_in : Model → List ℕ → List ℕ
-joint_marks_in m out = cond (lacks_joint_reset m) out (marks_in (without_touch (system_of_model m)) out)
-
 unfoldable pub joint_output : List ℕ → List ℕ → List ℕ → List ℕ
 joint_output bytes lent out = cond (eqb (joint_refusal bytes lent) 0) (marks_in (without_touch (system_of_model (model_of bytes))) out) out

@@ -1,13 +1,14 @@
 -- Request (h) of 02: "From the model alone, without marking, a new part gives S, the scratch length, an upper limit on the sheet's bytes, and an upper limit
 -- on the number of steps in our trail. A refused model gets its number from 1 to 7 instead."
-use Rattle.std.specs.Prelude.{◌≡◌, List, [], ◌∷◌, ℕ, ◌+◌, ◌-◌, ◌*◌, ◌≤◌, length}
+use Rattle.std.specs.Prelude.{◌≡◌, Result, List, [], ◌∷◌, ℕ, ◌+◌, ◌-◌, ◌*◌, ◌≤◌, length}
 use Rattle.number.specs.Number.{spell}
 use Rattle.number.specs.Shortest.{ShortestForm}
 use Rattle.number.specs.Answer.{Answer, answer}
 use Rattle.plan_reader.specs.Accept.{read_model}
+use Rattle.call.specs.Answered.{answered}
 use Rattle.call.specs.Call.{states_of}
+use Rattle.limits.specs.declared.refusal.Refusal.{Refusal}
 use Rattle.op_room.specs.declared.Space.{Space}
-use Rattle.op_room.specs.declared.Space.TheVariants.{Needs, Refused}
 
 -- ---- what is meant
 
@@ -36,7 +37,10 @@ room_for s = s ∷ s ∷ sheet_limit s ∷ (s - 1) ∷ []
 unfoldable pub room_answer : List ℕ → Answer
 room_answer bytes = answer (read_model bytes).refusal (room_for (states_of bytes))
 
--- the number and the values of each case
-unfoldable pub space_answer : Space → Answer
-space_answer (Needs s scratch sheet steps) = record { number = 0; values = s ∷ scratch ∷ sheet ∷ steps ∷ [] }
-space_answer (Refused r) = record { number = r; values = [] }
+-- the four values
+abbrev pub space_values : Space → List ℕ
+space_values r = r.states ∷ r.scratch ∷ r.sheet ∷ r.steps ∷ []
+
+-- the number and the values
+abbrev pub space_answer : Result Space Refusal → Answer
+space_answer = answered space_values

@@ -5,11 +5,15 @@ ghost use Rattle.std.specs.Prelude.{◌≡◌, ◌≤◌};
 ghost use Rattle.limits.specs.Limits.{max_states};
 ghost use Rattle.op_room.specs.Room.{sheet_limit, room_answer, space_answer};
 
-// S, the length of each scratch slice, the most bytes of a sheet, and the most steps of our trail.
-#[derive(Clone, Copy)]
-pub enum Space {
-    Needs(usize, usize, usize, usize),
-    Refused(u8),
+use limits::refusal::Refusal;
+
+// What a plan needs: S, the length of each scratch slice, the most bytes of a sheet, and the most steps of our trail.
+#[derive(Clone, Copy, Debug, PartialEq, Eq)]
+pub struct Space {
+    pub states: usize,
+    pub scratch: usize,
+    pub sheet: usize,
+    pub steps: usize,
 }
 
 // No sheet of so many states takes more bytes: one for its first number, and for each state as many as the largest number of a sheet takes.
@@ -21,14 +25,15 @@ fn sheet_limit(s: usize) -> usize
 }
 
 // 02: the room that the plan which the bytes spell needs, or a refusal, 1 to 7. Nothing is lent, and nothing is marked.
-pub fn room(bytes: &[u8]) -> Space
+pub fn room(bytes: &[u8]) -> Result<Space, Refusal>
     ensures { space_answer result ≡ room_answer bytes.now }
 {
-    let read = plan_reader::read_model(bytes);
-    let refusal = read.refusal;
-    if refusal != 0 {
-        return Space::Refused(refusal);
-    }
-    let s = graph::state_count(read.model);
-    Space::Needs(s, s, sheet_limit(s), s - 1)
+    let plan = plan_reader::read_model(bytes)?;
+    let s = graph::state_count(&plan);
+    Ok(Space {
+        states: s,
+        scratch: s,
+        sheet: sheet_limit(s),
+        steps: s - 1,
+    })
 }

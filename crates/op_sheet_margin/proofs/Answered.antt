@@ -3,7 +3,6 @@ use Prim.Native.Nat.{ℕ}
 use mathlib.Core.Path.{◌≡◌, refl}
 use mathlib.Core.Bool.{Bool, true, false, cond}
 use mathlib.Core.List.{List, [], ◌∷◌}
-use borrow.Author.Tests.{ne_eqb}
 use Rattle.number.specs.Answer.{answer}
 use Rattle.theory.specs.Below.{bit}
 use Rattle.theory.specs.Marked.{unsafe}
@@ -12,18 +11,15 @@ use Rattle.graph.specs.Plan.{system_of_model}
 use Rattle.graph.specs.States.{states}
 use Rattle.outlook.specs.declared.Outlook.{Outlook}
 use Rattle.outlook.specs.Outlook.{our_margin, outlook_for}
-use Rattle.call.specs.Call.{model_of, refusal}
-use Rattle.op_sheet_margin.specs.declared.Bound.TheVariants.{Refused}
-use Rattle.op_sheet_margin.specs.SheetMargin.{bound_values, bound_in, sheet_margin_answer, bound_answer}
+use Rattle.call.specs.Admitted.{called}
+use Rattle.call.specs.Call.{model_of}
+use Rattle.call.proofs.Calls.{called_plain}
+use Rattle.op_sheet_margin.specs.SheetMargin.{bound_values, bound_in, sheet_margin_answer}
 
-module _ (bytes lent : List ℕ) where
-  pub sheet_margin_refused : (r : ℕ) → refusal bytes lent ≡ r → (r ≡ 0 → ⊥) → bound_answer (Refused r) ≡ sheet_margin_answer bytes lent
-  unfolding bound_answer sheet_margin_answer answer
-  sheet_margin_refused r is ne = simp (is, ne_eqb r 0 ne) refl
-
-  pub sheet_margin_done : refusal bytes lent ≡ 0 → sheet_margin_answer bytes lent ≡ answer 0 (bound_values (model_of bytes))
-  unfolding sheet_margin_answer
-  sheet_margin_done is = simp is refl
+-- the answer, from what is said past number 8
+pub sheet_margin_said : (bytes lent : List ℕ) → called (answer 0 (bound_values (model_of bytes))) bytes lent ≡ sheet_margin_answer bytes lent
+unfolding sheet_margin_answer
+sheet_margin_said bytes lent = called_plain bytes lent _
 
 -- what is found gives the values
 pub found_values : (m : Model) (s : ℕ) (x : Outlook) → s ≡ states m → x ≡ outlook_for false m → bound_in s x ≡ bound_values m

@@ -2,26 +2,25 @@
 #![tactic(auto)]
 
 ghost use Rattle.std.specs.Prelude.{◌≡◌};
-ghost use Rattle.number.specs.Answer.{answer};
-ghost use Rattle.model.specs.Model.{Lawful};
-ghost use Rattle.graph.specs.States.{states};
-ghost use Rattle.call.specs.Scratch.{lengths, Scratch, Zeroed, ScratchLeft};
-ghost use Rattle.op_sheet_margin.specs.SheetMargin.{bound_values, bound_in, sheet_margin_answer, bound_answer};
+ghost use Rattle.call.specs.Scratch.{lengths, ScratchLeft};
+ghost use Rattle.op_sheet_margin.specs.SheetMargin.{bound_in, bound_values_of, sheet_margin_answer, bound_answer};
 
+use call::{Operation, Scratch};
 use limits::Word;
-use model::Model;
+use limits::refusal::Refusal;
+use model::Plan;
 use outlook::Outlook;
 
 // The number of states, and the margin if the plan is safe.
-#[derive(Clone, Copy)]
+#[derive(Clone, Copy, Debug, PartialEq, Eq)]
 pub enum Bound {
     Safe(usize, usize),
     Unsafe(usize),
-    Refused(u8),
 }
 
+#[tactic(auto, unfolding(crate::specs::SheetMargin::bound_in))]
 fn bound_of(s: usize, found: Outlook) -> Bound
-    ensures { bound_answer result ≡ answer 0 (bound_in s found) }
+    ensures { bound_values_of result ≡ bound_in s found }
 {
     match found {
         Outlook::Safe(margin) => Bound::Safe(s, margin),
@@ -29,22 +28,26 @@ fn bound_of(s: usize, found: Outlook) -> Bound
     }
 }
 
-// With slices of just S numbers, which are zero afterwards.
-fn bound_model(
-    m: Model,
-    s1: &mut [Word],
-    s2: &mut [Word],
-    s3: &mut [Word],
-    s4: &mut [Word],
-) -> Bound
-    requires { Lawful m × Scratch (states m) s1.old s2.old s3.old s4.old }
-    ensures result_value { bound_answer result ≡ answer 0 (bound_values m) }
-    ensures zeroed { Zeroed (states m) s1.new s2.new s3.new s4.new }
-{
-    let s = s1.len();
-    let found = outlook::find(m, false, s1, s2, s3, s4);
-    call::clear_all(s1, s2, s3, s4);
-    bound_of(s, found)
+#[derive(Clone, Copy)]
+struct MarginSearch;
+
+impl Operation for MarginSearch {
+    ghost use Rattle.number.specs.Answer.{answer};
+    ghost use Rattle.op_sheet_margin.specs.SheetMargin.{bound_values, bound_values_of};
+
+    type Value = Bound;
+
+    ghost values = { bound_values_of };
+
+    ghost says = { λ _ m _. answer 0 (bound_values m) };
+
+    ghost writes = { λ _ _ out. out };
+
+    fn run(&self, plan: &Plan, s: &mut Scratch, _out: &mut [u8]) -> Result<Bound, Refusal> {
+        let states = s.first.len();
+        let found = outlook::find(plan, false, s.first, s.second, s.third, s.fourth);
+        Ok(bound_of(states, found))
+    }
 }
 
 // A for a safe plan: every drift below 1/A of a unit is harmless for ever; or a refusal, 1 to 8.
@@ -54,18 +57,17 @@ pub fn sheet_margin(
     s2: &mut [Word],
     s3: &mut [Word],
     s4: &mut [Word],
-) -> Bound
+) -> Result<Bound, Refusal>
     ensures result_value { bound_answer result
         ≡ sheet_margin_answer bytes.now (lengths s1.old s2.old s3.old s4.old) }
     ensures scratch_left { ScratchLeft bytes.now s1.old s2.old s3.old s4.old
         s1.new s2.new s3.new s4.new }
 {
-    let admitted = call::admit(bytes, s1.len(), s2.len(), s3.len(), s4.len());
-    let refusal = admitted.refusal;
-    if refusal != 0 {
-        return Bound::Refused(refusal);
-    }
-    let m = admitted.model;
-    let s = admitted.states;
-    bound_model(m, &mut s1[..s], &mut s2[..s], &mut s3[..s], &mut s4[..s])
+    let mut s = Scratch {
+        first: s1,
+        second: s2,
+        third: s3,
+        fourth: s4,
+    };
+    call::call(&MarginSearch, bytes, &mut s, &mut [])
 }

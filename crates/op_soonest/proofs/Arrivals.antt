@@ -1,19 +1,26 @@
 -- What the call says: no such location, no run, or a time; or refused before.
 use Prim.Native.Nat.{ℕ, ◌≤◌, ◌<◌}
-use mathlib.Core.Path.{◌≡◌, refl}
+use mathlib.Core.Path.{◌≡◌, refl, ap}
 use mathlib.Core.Bool.{Bool, true, false, ◌&&◌}
 use mathlib.Core.List.{List, [], ◌∷◌}
 use native.Mathlib.Omega.{arith}
 use lib.Dec.{eqb, ltb}
-use borrow.Author.Tests.{eqb-true, eqb-false, ne_eqb, ltb-true, lt-ltb, le-ltb}
+use borrow.Author.Tests.{ne_eqb, eqb-true, eqb-false, ltb-true, lt-ltb, le-ltb}
 use Rattle.theory.proofs.Below.{and_right, cond_ind}
 use Rattle.model.specs.declared.Model.{Model}
 use Rattle.graph.specs.States.{states}
 use Rattle.least_time.specs.LeastTime.{least_time}
-use Rattle.op_soonest.specs.declared.Arrival.TheVariants.{Time, Refused}
+use Rattle.std.specs.Prelude.{Option, Some, None, unwrap_or, IfSome}
+use Rattle.std.specs.Option.{ok_or}
+use Rattle.std.specs.Prelude.{Err}
+use Rattle.limits.specs.declared.refusal.Refusal.{Refusal}
+use Rattle.limits.specs.declared.refusal.Refusal.TheVariants.{Unreached}
+use Rattle.limits.specs.Refusal.{code_of}
 use Rattle.number.specs.Answer.{answer}
+use Rattle.call.specs.Admitted.{called}
+use Rattle.call.proofs.Calls.{called_answer, told, refused_told}
 use Rattle.call.specs.Call.{model_of, states_of, refusal}
-use Rattle.op_soonest.specs.Sounding.{unreached, soonest_refusal, soonest_answer, arrival_answer}
+use Rattle.op_soonest.specs.Sounding.{unreached, soonest_refusal, soonest_answer, arrival_answer, soonest_says}
 
 false_right : (b : Bool) → (b && false) ≡ false
 false_right true = refl
@@ -32,28 +39,31 @@ module _ (m : Model) (l : ℕ) where
   unfolding unreached
   time_there h k = rw (lt-ltb l m.locations h, lt-ltb (least_time m l) (states m) k) refl
 
-  sixteen_told : unreached m l ≡ 16 → arrival_answer (Refused 16) ≡ answer (unreached m l) (least_time m l ∷ [])
-  unfolding arrival_answer answer
-  sixteen_told e = rw e refl
+  sixteen_told : unreached m l ≡ 16 → record { number = 16; values = [] } ≡ soonest_says m l
+  sixteen_told e = refused_told (unreached m l) Unreached (least_time m l ∷ []) e
 
-  pub outside_told : m.locations ≤ l → arrival_answer (Refused 16) ≡ answer (unreached m l) (least_time m l ∷ [])
+  pub outside_told : m.locations ≤ l → record { number = 16; values = [] } ≡ soonest_says m l
   outside_told h = sixteen_told (outside_there h)
 
-  pub never_told : (t : ℕ) → t ≡ least_time m l → states m ≤ t → arrival_answer (Refused 16) ≡ answer (unreached m l) (least_time m l ∷ [])
-  never_told t e h = sixteen_told (never_there (rw e at h))
-
-  pub time_told : (t : ℕ) → t ≡ least_time m l → l < m.locations → t < states m → arrival_answer (Time t) ≡ answer (unreached m l) (least_time m l ∷ [])
-  unfolding arrival_answer answer
-  time_told t e b h = rw (time_there b (rw e at h), e) refl
+  pub time_told : l < m.locations → (x : Option ℕ) → unwrap_or x (states m) ≡ least_time m l → IfSome x (λ t. t < states m)
+      → arrival_answer (ok_or x Unreached) ≡ soonest_says m l
+  time_told b None e h = sixteen_told (never_there (omega (arith, e)))
+  time_told b (Some t) e h = told (unreached m l) (t ∷ []) (least_time m l ∷ []) (time_there b (omega (arith, e, h))) (ap (λ (n : ℕ). n ∷ []) e)
 
 module _ (bytes : List ℕ) (l : ℕ) (lent : List ℕ) where
-  pub soonest_refused : (r : ℕ) → refusal bytes lent ≡ r → (r ≡ 0 → ⊥) → arrival_answer (Refused r) ≡ soonest_answer bytes l lent
-  unfolding arrival_answer soonest_answer soonest_refusal answer
-  soonest_refused r is ne = simp (is, ne_eqb r 0 ne) refl
+  -- what refuses every call refuses this one
+  pub soonest_refused : (r : Refusal) → refusal bytes lent ≡ code_of r → (code_of r ≡ 0 → ⊥) → arrival_answer (Err r) ≡ soonest_answer bytes l lent
+  unfolding soonest_answer soonest_refusal answer
+  soonest_refused r is ne = simp (is, ne_eqb (code_of r) 0 ne) refl
 
   pub soonest_done : refusal bytes lent ≡ 0 → soonest_answer bytes l lent ≡ answer (unreached (model_of bytes) l) (least_time (model_of bytes) l ∷ [])
   unfolding soonest_answer soonest_refusal
   soonest_done is = simp is refl
+
+  -- the answer, from what is said past number 8
+  pub soonest_said : called (soonest_says (model_of bytes) l) bytes lent ≡ soonest_answer bytes l lent
+  unfolding soonest_answer soonest_refusal
+  soonest_said = called_answer bytes lent _ _
 
   -- where a time is told, the call is admitted and the time is below the number of states
   pub soonest_taken : soonest_refusal bytes l lent ≡ 0 → (refusal bytes lent ≡ 0) × (least_time (model_of bytes) l < states_of bytes)

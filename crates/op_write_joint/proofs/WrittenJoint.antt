@@ -1,62 +1,39 @@
--- What the writer for plans with a joint reset says and leaves: refused as any call, refused by 17, or our evidence without touch.
-use Prim.Native.Nat.{ℕ}
+-- What the writer for plans with a joint reset says and leaves, from what it does past number 8.
+use Prim.Native.Nat.{ℕ, zero, suc}
+use native.Mathlib.Omega.{arith}
 use mathlib.Core.Path.{◌≡◌, refl}
-use mathlib.Core.Bool.{Bool, true, false, cond}
+use mathlib.Core.Bool.{true, false, cond}
 use mathlib.Core.List.{List, []}
 use lib.Dec.{eqb}
 use borrow.Author.Tests.{ne_eqb}
 use Rattle.number.specs.Answer.{Answer, answer}
 use Rattle.model.specs.declared.Model.{Model}
 use Rattle.edge_walks.specs.Joint.{lacks_joint_reset}
-use Rattle.spelling.specs.Lays.{filled}
-use Rattle.evidence_writer.specs.declared.Written.TheVariants.{Refused}
-use Rattle.evidence_writer.specs.Written.{evidence_by, written_by}
+use Rattle.evidence_writer.specs.Written.{Refused, written_by}
+use Rattle.call.specs.Admitted.{called, written}
 use Rattle.call.specs.Call.{model_of, refusal}
-use Rattle.call.proofs.Joint.{joint_refused, joint_past}
-use Rattle.op_write.specs.Write.{written_answer}
-use Rattle.op_write_joint.specs.WriteJoint.{joint_written, joint_evidence_in, joint_write_answer, joint_write_output}
+use Rattle.call.specs.Joint.{disjoint, joint_refusal}
+use Rattle.call.proofs.Joint.{past_joint_left}
+use Rattle.op_write.specs.Write.{written_answer, writing_says, writing_leaves}
+use Rattle.op_write_joint.specs.WriteJoint.{joint_write_answer, joint_write_output}
 
--- ---- past number 8
+-- 17 after 1 to 8, then what is said
+past_joint_said : (r d : ℕ) (a : Answer) → cond (eqb r 0) (cond (eqb d 0) a (answer d [])) (answer r [])
+    ≡ cond (eqb (cond (eqb r 0) d r) 0) a (answer (cond (eqb r 0) d r) [])
+past_joint_said zero d a = refl
+past_joint_said (suc r) d a = simp (ne_eqb (suc r) 0 (λ e. omega (arith, e))) refl
 
-module _ (m : Model) where
-  pub answer_disjoint : (k : ℕ) → lacks_joint_reset m ≡ true → written_answer (Refused 17) ≡ joint_written m k
-  unfolding written_answer answer
-  answer_disjoint k t = simp t refl
-
-  pub answer_joint : (k : ℕ) → lacks_joint_reset m ≡ false → written_answer (written_by false m k) ≡ joint_written m k
-  answer_joint k f = simp f refl
-
-  pub disjoint_alone : (out : List ℕ) → lacks_joint_reset m ≡ true → out ≡ joint_evidence_in m out
-  disjoint_alone out t = simp t refl
-
-  pub joint_in : (out : List ℕ) → lacks_joint_reset m ≡ false → filled (evidence_by false m) out ≡ joint_evidence_in m out
-  joint_in out f = simp f refl
-
--- ---- a call
+-- past number 8 a plan in which a closed walk that counts has no joint reset is refused by 17, whatever the output
+pub answer_disjoint : (m : Model) (k : ℕ) → lacks_joint_reset m ≡ true
+    → written_answer (Refused 17) ≡ cond (lacks_joint_reset m) (answer 17 []) (written_answer (written_by false m k))
+unfolding answer written_answer
+answer_disjoint m k t = simp t refl
 
 module _ (bytes lent : List ℕ) where
-  module _ (r : ℕ) (is : refusal bytes lent ≡ r) (ne : r ≡ 0 → ⊥) where
-    pub write_refused : (k : ℕ) → written_answer (Refused r) ≡ joint_write_answer bytes lent k
-    unfolding written_answer joint_write_answer answer
-    write_refused k = simp (joint_refused bytes lent r is ne, ne_eqb r 0 ne) refl
+  pub joint_write_said : (k : ℕ) → called (writing_says false (model_of bytes) k) bytes lent ≡ joint_write_answer bytes lent k
+  unfolding writing_says joint_write_answer joint_refusal
+  joint_write_said k = past_joint_said (refusal bytes lent) (disjoint (model_of bytes)) (written_answer (written_by false (model_of bytes) k))
 
-    pub write_alone : (xs : List ℕ) → xs ≡ joint_write_output bytes lent xs
-    unfolding joint_write_output
-    write_alone xs = simp (joint_refused bytes lent r is ne, ne_eqb r 0 ne) refl
-
-  module _ (is : refusal bytes lent ≡ 0) where
-    pub write_done : (k : ℕ) → joint_write_answer bytes lent k ≡ joint_written (model_of bytes) k
-    unfolding joint_write_answer
-    write_done k = simp (joint_past bytes lent is) (by (lacks_joint_reset (model_of bytes)) (written_answer (written_by false (model_of bytes) k)))
-      where
-        by : (b : Bool) (w : Answer) → cond (eqb (cond b 17 0) 0) w (answer (cond b 17 0) []) ≡ cond b (answer 17 []) w
-        by true w = refl
-        by false w = refl
-
-    pub write_output_lem : (xs : List ℕ) → joint_write_output bytes lent xs ≡ joint_evidence_in (model_of bytes) xs
-    unfolding joint_write_output
-    write_output_lem xs = simp (joint_past bytes lent is) (by (lacks_joint_reset (model_of bytes)) (filled (evidence_by false (model_of bytes)) xs))
-      where
-        by : (b : Bool) (ys : List ℕ) → cond (eqb (cond b 17 0) 0) ys xs ≡ cond b xs ys
-        by true ys = refl
-        by false ys = refl
+  pub joint_write_left : (xs : List ℕ) → written (writing_leaves false (model_of bytes) xs) bytes lent xs ≡ joint_write_output bytes lent xs
+  unfolding writing_leaves joint_write_output joint_refusal
+  joint_write_left xs = past_joint_left (refusal bytes lent) (disjoint (model_of bytes)) _ xs

@@ -1,20 +1,11 @@
 -- 02 (g), the evidence: "Marks, verdict and sheet are the full judge's; a trail here has no touch and is the fewest-step one without it".
 use Rattle.std.specs.Prelude.{false, cond, List, [], ℕ, eqb}
-use Rattle.model.specs.declared.Model.{Model}
-use Rattle.edge_walks.specs.Joint.{lacks_joint_reset}
 use Rattle.number.specs.Answer.{Answer, answer}
 use Rattle.spelling.specs.Lays.{filled}
 use Rattle.evidence_writer.specs.Written.{evidence_by, written_by}
 use Rattle.call.specs.Call.{model_of}
 use Rattle.call.specs.Joint.{joint_refusal}
 use Rattle.op_write.specs.Write.{written_answer}
-
--- past number 8: 17, then 9 or our evidence of time, jump and face steps alone
-abbrev pub joint_written : Model → ℕ → Answer
-joint_written m room = cond (lacks_joint_reset m) (answer 17 []) (written_answer (written_by false m room))
-
-abbrev pub joint_evidence_in : Model → List ℕ → List ℕ
-joint_evidence_in m out = cond (lacks_joint_reset m) out (filled (evidence_by false m) out)
 
 -- what the writer says of these bytes with scratch of these lengths and an output of so many bytes
 unfoldable pub joint_write_answer : List ℕ → List ℕ → ℕ → Answer

@@ -10,9 +10,9 @@ use Rattle.number.specs.Number.{read_number}
 use Rattle.number.proofs.Laws.{cond_ind}
 use Rattle.number.proofs.Sequence.{Reads, none, more, plain, reads_append, reads_first, reads_within}
 use Rattle.model.specs.declared.Model.{Model}
-use Rattle.parser.specs.declared.Reading.{Reading}
-use Rattle.parser.specs.declared.Field.{Field}
-use Rattle.parser.specs.declared.State.{State}
+use Rattle.parser.specs.Parse.{Reading}
+use Rattle.parser.specs.Parse.{Field}
+use Rattle.parser.specs.Parse.{State}
 use Rattle.limits.specs.Limits.{max_clocks, max_ceiling, max_locations, max_edges, newest_mark, KnownMark}
 use Rattle.model.specs.Each.{each, gather}
 use Rattle.model.specs.Model.{slot, with_arrays, with_invariant}
@@ -21,7 +21,7 @@ use Rattle.parser.specs.Parse.{field_at, on_field, going, blank, refused, finish
 use Rattle.parser.proofs.Fields.{field_is, taken}
 use Rattle.parser.proofs.Arrays.{row, line, grid}
 use Rattle.parser.proofs.Readers.{Ends, Guard, body_reader}
-use Rattle.number.specs.declared.Number.TheVariants as number
+use Rattle.number.specs.Number as number
 
 -- the numbers of a plan: six of the header, then kind and stay fields of each location, then ends and guards of each edge
 pub record Draft : Type 0 where

@@ -1,22 +1,18 @@
 -- What a field of a model's bytes says.
 use Prim.Native.Nat.{ℕ, ◌≤◌, ◌<◌}
 use native.Mathlib.Omega.{arith}
-use mathlib.Core.Path.{◌≡◌, refl, sym, ap, subst, ◌∙◌}
+use mathlib.Core.Path.{◌≡◌, refl, subst}
 use mathlib.Core.List.{List}
 use mathlib.Core.Bool.{Bool, true, false, cond, ◌&&◌}
 use lib.ListN.{length}
 use lib.Dec.{leb}
 use borrow.Author.Tests.{leb-true, le-leb}
-use Rattle.number.specs.declared.Number.{Number}
-use Rattle.number.specs.Number.{read_number}
+use Rattle.number.specs.Number.{Number, read_number}
 use Rattle.number.proofs.Laws.{cond_ind, Sound, sound}
-use Rattle.model.specs.declared.Model.{Model}
-use Rattle.parser.specs.declared.Reading.{Reading}
-use Rattle.parser.specs.declared.State.{State}
-use Rattle.parser.specs.declared.Field.{Field}
-use Rattle.parser.specs.declared.Field.TheVariants.{Value, Refused}
-use Rattle.parser.specs.Parse.{within, field_at, field_refusal, on_field, refused}
-use Rattle.number.specs.declared.Number.TheVariants as number
+use Rattle.parser.specs.Parse.{Field}
+use Rattle.parser.specs.Parse.{Value, Refused}
+use Rattle.parser.specs.Parse.{within, field_at, on_field}
+use Rattle.number.specs.Number as number
 
 -- a value is within its range and the next position is further on; a refusal is 1, 2 or that of the range
 abbrev pub Within : List ℕ → ℕ → ℕ → ℕ → ℕ → Field → Type 0
@@ -91,18 +87,3 @@ taken {A} refusal_of bs at low high refusal stop go two same =
     (λ v p x e.
     let w = field_value bs at low high refusal v p x in
     record { value = v; to = p; reads = field_read bs at low high refusal v p x; least = w.0; most = w.1; is = refl })
-
--- ---- as the code goes: what is known of a field that was read, and of what is returned where it was refused
-
-pub field_range : (bs : List ℕ) (at low high refusal v p : ℕ) {f : Field} → f ≡ field_at bs at low high refusal → f ≡ Value v p
-    → (low ≤ v) × (v ≤ high)
-field_range bs at low high refusal v p d e =
-    let w = field_value bs at low high refusal v p (sym d ∙ e) in
-    (w.0, w.1)
-
-pub refuse_law : {f : Field} {r k : ℕ} {a : Reading} → a ≡ refused k → k ≡ field_refusal f → f ≡ Refused r → a ≡ refused r
-refuse_law p q e = p ∙ ap refused (q ∙ ap field_refusal e)
-
-pub stop_law : {at : ℕ} {model : Model} {t : State} {f : Field} {r : ℕ}
-    → t ≡ record { refusal = field_refusal f; at = at; model = model } → f ≡ Refused r → t ≡ record { refusal = r; at = at; model = model }
-stop_law p e = simp e at p

@@ -6,8 +6,8 @@ use mathlib.Core.List.{List}
 use lib.ListN.{length, get_or}
 use lib.Dec.{ltb, eqb}
 use Rattle.number.proofs.Laws.{cond_ind}
-use Rattle.parser.specs.declared.Reading.{Reading}
-use Rattle.parser.specs.declared.State.{State}
+use Rattle.parser.specs.Parse.{Reading}
+use Rattle.parser.specs.Parse.{State}
 use Rattle.limits.specs.Limits.{max_clocks, max_ceiling, max_locations, max_edges, newest_mark}
 use Rattle.model.specs.Each.{each}
 use Rattle.model.specs.Model.{slot, Lawful}

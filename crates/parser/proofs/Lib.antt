@@ -6,3 +6,7 @@ pub mod Readers
 pub mod Drafts
 pub mod Finals
 pub mod Lawful
+-- A refused reading stays refused.
+pub mod Stops
+-- The code's way after the header.
+pub mod Bodies

@@ -9,7 +9,7 @@ use borrow.Author.Tests.{eqb-true, eqb-false, eq-eqb, ne_eqb}
 use Rattle.number.proofs.Laws.{cond_ind}
 use Rattle.number.proofs.Sequence.{Reads, none, more, reads_append, reads_split, reads_end, reads_first}
 use Rattle.model.specs.declared.Model.{Model}
-use Rattle.parser.specs.declared.State.{State}
+use Rattle.parser.specs.Parse.{State}
 use Rattle.model.specs.Each.{each, gather}
 use Rattle.model.specs.Model.{slot, with_invariant}
 use Rattle.parser.specs.Parse.{field_at, on_field, unless_stopped, going, stopped, with_kind, with_ends, with_guard, kind_at, invariant_at, ends_at, guard_at, parse_location, parse_edge}

@@ -1,18 +1,33 @@
 -- The bytes of a model, judged number by number: "1, 2, then range, low and high when high is read; then 6".
 -- As in 01, n is the number of clocks, m the ceiling; l and e are the numbers of locations and edges, or the number of one of them.
-use Rattle.std.specs.Prelude.{ℕ, ◌+◌, ◌*◌, ◌-◌, ◌^◌, List, cond, ◌&&◌, length, set, replicate, ltb, leb, eqb}
-use Rattle.number.specs.declared.Number.{Number}
-use Rattle.number.specs.Number.{read_number}
+use Rattle.std.specs.Prelude.{ℕ, ◌+◌, ◌*◌, ◌-◌, ◌^◌, List, cond, Result, Ok, Err, ◌&&◌, length, set, replicate, ltb, leb, eqb}
+use Rattle.number.specs.Number.{Number, read_number}
 use Rattle.model.specs.declared.Model.{Model}
-use Rattle.parser.specs.declared.Reading.{Reading}
-use Rattle.parser.specs.declared.Field.{Field}
-use Rattle.parser.specs.declared.Field.TheVariants.{Value, Refused}
-use Rattle.parser.specs.declared.State.{State}
+use Rattle.model.specs.declared.Plan.{Plan}
+use Rattle.limits.specs.declared.refusal.Refusal.{Refusal}
+use Rattle.limits.specs.Refusal.{code_of}
 use Rattle.limits.specs.Limits.{max_clocks, max_ceiling, max_locations, max_edges, newest_mark}
 use Rattle.model.specs.Each.{each}
 use Rattle.model.specs.Model.{slot, with_arrays, with_invariant}
 use Rattle.stay_fields.specs.Resolve.{resolved}
-use Rattle.number.specs.declared.Number.TheVariants as number
+use Rattle.number.specs.Number as number
+
+-- what reading a model gives: 0, its mark and the model; or the refusal, no mark and a blank model
+pub record Reading : Type 0 where
+  pub refusal : ℕ
+  pub mark : ℕ
+  pub model : Model
+
+-- a number within its range and the position after it, or its refusal
+pub data Field : Type 0 where
+  Value : ℕ → ℕ → Field
+  Refused : ℕ → Field
+
+-- how far the reading is: nothing more is read once the refusal is not 0
+pub record State : Type 0 where
+  pub refusal : ℕ
+  pub at : ℕ
+  pub model : Model
 
 -- ---- one number
 
@@ -122,6 +137,15 @@ parse_edge bs n M l e s = each n (guard_at bs M e) (ends_at bs n l e s)
 -- a refused model is blank and has no mark
 abbrev pub refused : ℕ → Reading
 refused r = record { refusal = r; mark = 0; model = blank 0 0 0 0 0 }
+
+-- a plan as a reading
+abbrev pub reading_of : Plan → Reading
+reading_of p = record { refusal = 0; mark = p.mark; model = p.model }
+
+-- a plan or a refusal
+abbrev pub numbered : Result Plan Refusal → Reading
+numbered (Ok p) = reading_of p
+numbered (Err r) = refused (code_of r)
 
 -- "Nothing may follow": 6, "bytes remain at the end"
 abbrev pub finish : List ℕ → ℕ → State → Reading

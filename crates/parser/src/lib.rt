@@ -1,16 +1,13 @@
 // The bytes of a model, judged number by number.
 #![tactic(auto)]
 
-ghost use Rattle.std.specs.Prelude.{◌≡◌, ◌-◌, ◌<◌, ◌≤◌, ◌^◌};
+ghost use Rattle.std.specs.Prelude.{◌≡◌, ◌-◌, ◌<◌, ◌≤◌, ◌^◌, IfOk};
 ghost use Rattle.limits.specs.Limits.{max_clocks, max_ceiling, max_locations, max_edges};
-ghost use Rattle.model.specs.Each.{each};
-ghost use Rattle.parser.specs.Parse.{field_at, field_refusal, blank, stopped};
-ghost use Rattle.parser.specs.Parse.{kind_at, invariant_at, parse_location, ends_at, guard_at, parse_edge};
-ghost use Rattle.stay_fields.specs.Resolve.{Resolvable};
-ghost use Rattle.parser.specs.Parse.{refused, finish, parse_body, parse_counts, parse_model};
+ghost use Rattle.parser.specs.Parse.{blank, numbered, parse_model};
 
-use limits::{MAX_CEILING, MAX_CLOCKS, MAX_EDGES, MAX_LOCATIONS, NEWEST_MARK, refusal};
-use model::{GUARD_SLOTS, INVARIANT_SLOTS, Model, STRIDE};
+use limits::refusal::Refusal;
+use limits::{MAX_CEILING, MAX_CLOCKS, MAX_EDGES, MAX_LOCATIONS, NEWEST_MARK};
+use model::{GUARD_SLOTS, INVARIANT_SLOTS, Model, Plan, STRIDE};
 use number::Number;
 use stay_fields::resolve_model;
 
@@ -25,63 +22,12 @@ const EDGES: u8 = MAX_EDGES as u8;
 
 const MARKS: u8 = NEWEST_MARK as u8;
 
-// What reading a model gives: 0, its mark and the model; or the refusal, no mark and a blank model. The mark decides what a blank stay field means, and
-// nothing else: with the limits resolved it stands beside the model, not in it.
-#[derive(Clone, Copy)]
-pub struct Reading {
-    pub refusal: u8,
-    pub mark: u8,
-    pub model: Model,
-}
-
-// A number within its range and the offset after it, or its refusal.
-#[derive(Clone, Copy)]
-pub enum Field {
-    Value(u8, usize),
-    Refused(u8),
-}
-
-// How far the reading is: nothing more is read once the refusal is not 0.
-#[derive(Clone, Copy)]
-pub struct State {
-    pub refusal: u8,
-    pub at: usize,
-    pub model: Model,
-}
-
-// The refusal of a field, 0 where it has a value.
-fn field_refusal(f: Field) -> u8
-    ensures { result ≡ field_refusal f }
-{
-    match f {
-        Field::Value(_, _) => 0,
-        Field::Refused(r) => r,
-    }
-}
-
-// The number at an offset, from low to high.
-fn read_field(bytes: &[u8], at: usize, low: u8, high: u8, refusal: u8) -> Field
-    ensures { result ≡ field_at bytes.now at low high refusal }
-{
-    let got = number::read(bytes, at);
-    let Number::Value(v, next) = got else {
-        return Field::Refused(number::refusal_of(got));
-    };
-    if v < (low as u32) {
-        return Field::Refused(refusal);
-    }
-    if (high as u32) < v {
-        return Field::Refused(refusal);
-    }
-    Field::Value(v as u8, next)
-}
-
 // The five numbers, with nothing read of the arrays.
-fn blank_model(n: u8, ceiling: u8, locations: u8, edges: u8, start: u8) -> Model
-    ensures { result ≡ blank n ceiling locations edges start }
+fn blank_model(clocks: u8, ceiling: u8, locations: u8, edges: u8, start: u8) -> Model
+    ensures { result ≡ blank clocks ceiling locations edges start }
 {
     Model {
-        clocks: n,
+        clocks,
         ceiling,
         locations,
         edges,
@@ -96,265 +42,176 @@ fn blank_model(n: u8, ceiling: u8, locations: u8, edges: u8, start: u8) -> Model
     }
 }
 
-// The reading, stopped by a field that was refused.
-fn stop(s: State, f: Field) -> State
-    ensures { result ≡ stopped s (field_refusal f) }
-{
-    let m = s.model;
-    State {
-        refusal: field_refusal(f),
-        at: s.at,
-        model: m,
-    }
-}
-
-fn read_kind(bytes: &[u8], l: usize, s: State) -> State
-    requires { l < max_locations }
-    ensures { result ≡ kind_at bytes.now l s }
-{
-    if s.refusal != 0 {
-        return s;
-    }
-    let at = s.at;
-    let got = read_field(bytes, at, 0, 1, refusal::LOCATION);
-    let Field::Value(v, next) = got else {
-        return stop(s, got);
-    };
-    let mut m = s.model;
-    m.kind[l] = v;
-    State {
-        refusal: 0,
-        at: next,
-        model: m,
-    }
-}
-
-fn read_invariant(bytes: &[u8], ceiling: u8, l: usize, x: usize, s: State) -> State
-    requires { (ceiling ≤ max_ceiling) × (l < max_locations) × (x < max_clocks) }
-    ensures { result ≡ invariant_at bytes.now ceiling l x s }
-{
-    if s.refusal != 0 {
-        return s;
-    }
-    let at = s.at;
-    let got = read_field(bytes, at, 0, ceiling + 1, refusal::LOCATION);
-    let Field::Value(v, next) = got else {
-        return stop(s, got);
-    };
-    let mut m = s.model;
-    let i = STRIDE * l + x;
-    m.invariant[i] = v;
-    State {
-        refusal: 0,
-        at: next,
-        model: m,
-    }
-}
-
-fn read_invariants(bytes: &[u8], ceiling: u8, n: usize, l: usize, s: State) -> State
-    requires { (ceiling ≤ max_ceiling) × (l < max_locations) × (n ≤ max_clocks) }
-    ensures { result ≡ each n (invariant_at bytes.now ceiling l) s }
-{
-    let mut t = s;
-    for x in 0..n {
-        t = read_invariant(bytes, ceiling, l, x, t);
-    }
-    t
-}
-
-fn read_locations(bytes: &[u8], ceiling: u8, n: usize, count: usize, s: State) -> State
-    requires { (ceiling ≤ max_ceiling) × (n ≤ max_clocks) × (count ≤ max_locations) }
-    ensures { result ≡ each count (parse_location bytes.now n ceiling) s }
-{
-    let mut t = s;
-    for l in 0..count {
-        t = read_invariants(bytes, ceiling, n, l, read_kind(bytes, l, t));
-    }
-    t
-}
-
 // The largest reset mask of n clocks.
-fn largest_mask(n: usize) -> u8
+fn largest_mask(n: u8) -> u8
     requires { (1 ≤ n) × (n ≤ max_clocks) }
     ensures { result ≡ 2 ^ n - 1 }
 {
     (1 << n) - 1
 }
 
-// Source, target and reset mask of an edge.
-fn read_ends(bytes: &[u8], n: usize, locations: u8, e: usize, s: State) -> State
-    requires { (1 ≤ n) × (n ≤ max_clocks) × (1 ≤ locations) × (e < max_edges) }
-    ensures { result ≡ ends_at bytes.now n locations e s }
-{
-    if s.refusal != 0 {
-        return s;
-    }
-    let at = s.at;
-    let source = read_field(bytes, at, 0, locations - 1, refusal::EDGE);
-    let Field::Value(f, at2) = source else {
-        return stop(s, source);
-    };
-    let target = read_field(bytes, at2, 0, locations - 1, refusal::EDGE);
-    let Field::Value(t, at3) = target else {
-        return stop(s, target);
-    };
-    let reset = read_field(bytes, at3, 0, largest_mask(n), refusal::EDGE);
-    let Field::Value(r, next) = reset else {
-        return stop(s, reset);
-    };
-    let mut m = s.model;
-    m.source[e] = f;
-    m.target[e] = t;
-    m.reset[e] = r;
-    State {
-        refusal: 0,
-        at: next,
-        model: m,
-    }
-}
-
-// Low and high of an edge for a clock.
-fn read_guard(bytes: &[u8], ceiling: u8, e: usize, x: usize, s: State) -> State
-    requires { (e < max_edges) × (x < max_clocks) }
-    ensures { result ≡ guard_at bytes.now ceiling e x s }
-{
-    if s.refusal != 0 {
-        return s;
-    }
-    let at = s.at;
-    let low = read_field(bytes, at, 0, ceiling, refusal::EDGE);
-    let Field::Value(v, at2) = low else {
-        return stop(s, low);
-    };
-    let high = read_field(bytes, at2, v, ceiling, refusal::EDGE);
-    let Field::Value(w, next) = high else {
-        return stop(s, high);
-    };
-    let mut m = s.model;
-    let i = STRIDE * e + x;
-    m.lower[i] = v;
-    m.upper[i] = w;
-    State {
-        refusal: 0,
-        at: next,
-        model: m,
-    }
-}
-
-fn read_guards(bytes: &[u8], ceiling: u8, n: usize, e: usize, s: State) -> State
-    requires { (e < max_edges) × (n ≤ max_clocks) }
-    ensures { result ≡ each n (guard_at bytes.now ceiling e) s }
-{
-    let mut t = s;
-    for x in 0..n {
-        t = read_guard(bytes, ceiling, e, x, t);
-    }
-    t
-}
-
-fn read_edges(bytes: &[u8], ceiling: u8, n: usize, locations: u8, count: usize, s: State) -> State
-    requires { (1 ≤ n) × (n ≤ max_clocks) × (1 ≤ locations) × (count ≤ max_edges) }
-    ensures { result ≡ each count (parse_edge bytes.now n ceiling locations) s }
-{
-    let mut t = s;
-    for e in 0..count {
-        t = read_guards(bytes, ceiling, n, e, read_ends(bytes, n, locations, e, t));
-    }
-    t
-}
-
-// A refusal, with no mark and a blank model.
-pub fn refuse(r: u8) -> Reading
-    ensures { result ≡ refused r }
-{
-    let m = blank_model(0, 0, 0, 0, 0);
-    Reading {
-        refusal: r,
-        mark: 0,
-        model: m,
-    }
-}
-
-// The model read, if nothing was refused and nothing follows.
-fn end(bytes: &[u8], mark: u8, s: State) -> Reading
-    requires { Resolvable s.model }
-    ensures { result ≡ finish bytes.now mark s }
-{
-    if s.refusal != 0 {
-        return refuse(s.refusal);
-    }
-    if s.at < bytes.len() {
-        return refuse(refusal::BYTES_REMAIN);
-    }
-    let m = resolve_model(mark, s.model);
-    Reading {
-        refusal: 0,
-        mark,
-        model: m,
-    }
-}
-
-// The locations, the edges and the end.
-fn parse_body(
-    bytes: &[u8],
+// The bytes, and the offset of the next number.
+#[derive(Clone, Copy)]
+struct Cursor<'a> {
+    bytes: &'a [u8],
     at: usize,
-    mark: u8,
-    n: u8,
-    ceiling: u8,
-    locations: u8,
-    edges: u8,
-    start: u8,
-) -> Reading
-    requires le_n { (1 ≤ n) × (n ≤ max_clocks) × (ceiling ≤ max_ceiling) }
-    requires le_locations { (1 ≤ locations) × (locations ≤ max_locations) × (edges ≤ max_edges) }
-    ensures { result ≡ parse_body bytes.now at mark n ceiling locations edges start }
-{
-    let m = blank_model(n, ceiling, locations, edges, start);
-    let s = State {
-        refusal: 0,
-        at,
-        model: m,
-    };
-    let t = read_locations(bytes, ceiling, n as usize, locations as usize, s);
-    let u = read_edges(bytes, ceiling, n as usize, locations, edges as usize, t);
-    end(bytes, mark, u)
 }
 
-// From the number of locations on.
-fn parse_counts(bytes: &[u8], at: usize, mark: u8, n: u8, ceiling: u8) -> Reading
-    requires { (1 ≤ n) × (n ≤ max_clocks) × (ceiling ≤ max_ceiling) }
-    ensures { result ≡ parse_counts bytes.now at mark n ceiling }
-{
-    let locations = read_field(bytes, at, 1, LOCATIONS, refusal::HEADER);
-    let Field::Value(l, at2) = locations else {
-        return refuse(field_refusal(locations));
-    };
-    let edges = read_field(bytes, at2, 0, EDGES, refusal::HEADER);
-    let Field::Value(e, at3) = edges else {
-        return refuse(field_refusal(edges));
-    };
-    let start = read_field(bytes, at3, 0, l - 1, refusal::HEADER);
-    let Field::Value(s, next) = start else {
-        return refuse(field_refusal(start));
-    };
-    parse_body(bytes, next, mark, n, ceiling, l, e, s)
+impl<'a> Cursor<'a> {
+    ghost use Rattle.limits.specs.Refusal.{code_of};
+    ghost use Rattle.model.specs.Each.{each};
+    ghost use Rattle.parser.specs.Parse.{field_at, going, kind_at, invariant_at, parse_location, ends_at, guard_at, parse_edge, finish, parse_body, parse_counts};
+    ghost use Rattle.parser.specs.Cursor.{read_field, with_mark, Counted, SameHeader, Ends};
+    ghost use Rattle.stay_fields.specs.Resolve.{Resolvable};
+
+    // The next number, from low to high.
+    #[tactic(auto, unfolding(crate::specs::Parse::field_at))]
+    fn field(&mut self, low: u8, high: u8, refusal: Refusal) -> Result<u8, Refusal>
+        ensures value { read_field result self.new.at ≡ field_at self.old.bytes.now self.old.at low high (code_of refusal) }
+        ensures range { IfOk result (λ v. (low ≤ v) × (v ≤ high)) }
+        ensures bytes { self.new.bytes ≡ self.old.bytes }
+    {
+        let got = number::read(self.bytes, self.at);
+        let Number::Value(v, next) = got else {
+            return Err(got.refusal());
+        };
+        if v < u32::from(low) || u32::from(high) < v {
+            return Err(refusal);
+        }
+        self.at = next;
+        Ok(v as u8)
+    }
+
+    // A location: its kind, then its stay fields.
+    #[tactic(auto, unfolding(model::specs::Each::each, crate::specs::Parse::kind_at, crate::specs::Parse::invariant_at))]
+    fn location(&mut self, m: &mut Model, l: usize) -> Result<(), Refusal>
+        requires { Counted m.old × (l < max_locations) }
+        ensures read { Ends result self.new m.new (parse_location self.old.bytes.now m.old.clocks m.old.ceiling l (going self.old.at m.old)) }
+        ensures bytes { self.new.bytes ≡ self.old.bytes }
+        ensures same { SameHeader m.old m.new }
+    {
+        m.kind[l] = self.field(0, 1, Refusal::Location)?;
+        for x in 0..usize::from(m.clocks) {
+            m.invariant[STRIDE * l + x] = self.field(0, m.ceiling + 1, Refusal::Location)?;
+        }
+        Ok(())
+    }
+
+    #[tactic(auto, unfolding(model::specs::Each::each))]
+    fn locations(&mut self, m: &mut Model) -> Result<(), Refusal>
+        requires { Counted m.old }
+        ensures read { Ends result self.new m.new (each m.old.locations (parse_location self.old.bytes.now m.old.clocks m.old.ceiling) (going self.old.at m.old)) }
+        ensures bytes { self.new.bytes ≡ self.old.bytes }
+        ensures same { SameHeader m.old m.new }
+    {
+        for l in 0..usize::from(m.locations) {
+            self.location(m, l)?;
+        }
+        Ok(())
+    }
+
+    // Source, target and reset mask of an edge.
+    #[tactic(auto, unfolding(crate::specs::Parse::ends_at))]
+    fn ends(&mut self, m: &mut Model, e: usize) -> Result<(), Refusal>
+        requires { Counted m.old × (e < max_edges) }
+        ensures read { Ends result self.new m.new (ends_at self.old.bytes.now m.old.clocks m.old.locations e (going self.old.at m.old)) }
+        ensures bytes { self.new.bytes ≡ self.old.bytes }
+        ensures same { SameHeader m.old m.new }
+    {
+        m.source[e] = self.field(0, m.locations - 1, Refusal::Edge)?;
+        m.target[e] = self.field(0, m.locations - 1, Refusal::Edge)?;
+        m.reset[e] = self.field(0, largest_mask(m.clocks), Refusal::Edge)?;
+        Ok(())
+    }
+
+    // Low and high of an edge for a clock.
+    #[tactic(auto, unfolding(crate::specs::Parse::guard_at))]
+    fn guard(&mut self, m: &mut Model, e: usize, x: usize) -> Result<(), Refusal>
+        requires { Counted m.old × (e < max_edges) × (x < max_clocks) }
+        ensures read { Ends result self.new m.new (guard_at self.old.bytes.now m.old.ceiling e x (going self.old.at m.old)) }
+        ensures bytes { self.new.bytes ≡ self.old.bytes }
+        ensures same { SameHeader m.old m.new }
+    {
+        let low = self.field(0, m.ceiling, Refusal::Edge)?;
+        let high = self.field(low, m.ceiling, Refusal::Edge)?;
+        m.lower[STRIDE * e + x] = low;
+        m.upper[STRIDE * e + x] = high;
+        Ok(())
+    }
+
+    // An edge: its ends, then its guards.
+    #[tactic(auto, using(crate::proofs::Stops::edge_refused), unfolding(model::specs::Each::each))]
+    fn edge(&mut self, m: &mut Model, e: usize) -> Result<(), Refusal>
+        requires { Counted m.old × (e < max_edges) }
+        ensures read { Ends result self.new m.new (parse_edge self.old.bytes.now m.old.clocks m.old.ceiling m.old.locations e (going self.old.at m.old)) }
+        ensures bytes { self.new.bytes ≡ self.old.bytes }
+        ensures same { SameHeader m.old m.new }
+    {
+        self.ends(m, e)?;
+        for x in 0..usize::from(m.clocks) {
+            self.guard(m, e, x)?;
+        }
+        Ok(())
+    }
+
+    #[tactic(auto, unfolding(model::specs::Each::each))]
+    fn edges(&mut self, m: &mut Model) -> Result<(), Refusal>
+        requires { Counted m.old }
+        ensures read { Ends result self.new m.new (each m.old.edges (parse_edge self.old.bytes.now m.old.clocks m.old.ceiling m.old.locations) (going self.old.at m.old)) }
+        ensures bytes { self.new.bytes ≡ self.old.bytes }
+        ensures same { SameHeader m.old m.new }
+    {
+        for e in 0..usize::from(m.edges) {
+            self.edge(m, e)?;
+        }
+        Ok(())
+    }
+
+    // The model with limits for stay fields, if nothing follows it.
+    fn finish(&self, mark: u8, m: &Model) -> Result<Model, Refusal>
+        requires { Resolvable m.now }
+        ensures { with_mark mark result ≡ finish self.now.bytes.now mark (going self.now.at m.now) }
+    {
+        if self.at < self.bytes.len() {
+            return Err(Refusal::BytesRemain);
+        }
+        Ok(resolve_model(mark, m))
+    }
+
+    // The locations, the edges and the end, after the header that the model has.
+    fn body(&mut self, mark: u8, m: &mut Model) -> Result<Model, Refusal>
+        requires counted { Counted m.old }
+        requires blank { m.old ≡ blank m.old.clocks m.old.ceiling m.old.locations m.old.edges m.old.start }
+        ensures { with_mark mark result ≡ parse_body self.old.bytes.now self.old.at mark m.old.clocks m.old.ceiling m.old.locations m.old.edges m.old.start }
+    {
+        self.locations(m)?;
+        self.edges(m)?;
+        self.finish(mark, m)
+    }
+
+    // From the number of locations on.
+    #[tactic(auto, unfolding(crate::specs::Parse::parse_counts))]
+    fn counts(&mut self, mark: u8, clocks: u8, ceiling: u8) -> Result<Model, Refusal>
+        requires { (1 ≤ clocks) × (clocks ≤ max_clocks) × (ceiling ≤ max_ceiling) }
+        ensures { with_mark mark result ≡ parse_counts self.old.bytes.now self.old.at mark clocks ceiling }
+    {
+        let locations = self.field(1, LOCATIONS, Refusal::Header)?;
+        let edges = self.field(0, EDGES, Refusal::Header)?;
+        let start = self.field(0, locations - 1, Refusal::Header)?;
+        let mut m = blank_model(clocks, ceiling, locations, edges, start);
+        self.body(mark, &mut m)
+    }
 }
 
-// The model that the bytes spell, or the refusal, 1 to 6.
-pub fn parse_model(bytes: &[u8]) -> Reading
-    ensures { result ≡ parse_model bytes.now }
+// The plan that the bytes spell, or the refusal, 1 to 6.
+#[tactic(auto, unfolding(crate::specs::Parse::parse_model))]
+pub fn parse_model(bytes: &[u8]) -> Result<Plan, Refusal>
+    ensures { numbered result ≡ parse_model bytes.now }
 {
-    let mark = read_field(bytes, 0, 1, MARKS, refusal::HEADER);
-    let Field::Value(k, at2) = mark else {
-        return refuse(field_refusal(mark));
-    };
-    let clocks = read_field(bytes, at2, 1, CLOCKS, refusal::HEADER);
-    let Field::Value(n, at3) = clocks else {
-        return refuse(field_refusal(clocks));
-    };
-    let ceiling = read_field(bytes, at3, 1, CEILING, refusal::HEADER);
-    let Field::Value(m, next) = ceiling else {
-        return refuse(field_refusal(ceiling));
-    };
-    parse_counts(bytes, next, k, n, m)
+    let mut numbers = Cursor { bytes, at: 0 };
+    let mark = numbers.field(1, MARKS, Refusal::Header)?;
+    let clocks = numbers.field(1, CLOCKS, Refusal::Header)?;
+    let ceiling = numbers.field(1, CEILING, Refusal::Header)?;
+    let model = numbers.counts(mark, clocks, ceiling)?;
+    Ok(Plan { mark, model })
 }

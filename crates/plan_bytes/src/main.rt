@@ -1,7 +1,6 @@
 // Writes the shortest form of the plan on standard input, or the refusal: two files hold one plan where it writes the same for both.
 #![tactic(auto)]
 
-use op_plan::Stored;
 use printing::{refuse, send};
 use reading::read_full;
 use std::io;
@@ -12,8 +11,8 @@ const BYTES: usize = 4096;
 
 fn write<W: Write>(to: &mut W, plan: &[u8], out: &mut [u8]) -> io::Result<()> {
     match op_plan::write_plan(plan, out) {
-        Stored::Bytes(n) => send(to, out, n),
-        Stored::Refused(number) => refuse(to, number),
+        Ok(n) => send(to, out, n),
+        Err(r) => refuse(to, r.code()),
     }
 }
 

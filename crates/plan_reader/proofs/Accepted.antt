@@ -8,7 +8,7 @@ use mathlib.Core.Bool.{true, false}
 use lib.Dec.{eqb}
 use borrow.Author.Tests.{eqb-true, eqb-false}
 use Rattle.number.proofs.Laws.{cond_ind}
-use Rattle.parser.specs.declared.Reading.{Reading}
+use Rattle.parser.specs.Parse.{Reading}
 use Rattle.model.specs.Model.{Lawful}
 use Rattle.parser.specs.Parse.{blank, refused, parse_model}
 use Rattle.edge_walks.specs.Cycle.{LeavesUnreset, unreset}
@@ -84,7 +84,3 @@ module _ (bs : List ℕ) where
     -- each closed walk resets each clock
     pub accepted_resets : LeavesUnreset (read_model bs).model → ⊥
     accepted_resets = simp (accepted_parse e) (accepted_law.0 e).1
-
--- for a caller of the reader
-pub reading_lawful : (bs : List ℕ) (r : Reading) → r ≡ read_model bs → r.refusal ≡ 0 → Lawful r.model
-reading_lawful bs r e = rw e (accepted_lawful bs)

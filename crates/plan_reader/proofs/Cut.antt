@@ -11,18 +11,17 @@ use lib.Seq.{get_or-take, take_all, length-take-le}
 use lib.Dec.{leb, eqb}
 use borrow.Author.Tests.{lt-ltb}
 use Rattle.number.proofs.Laws.{cond_ind, read_near, Agree, read_same}
-use Rattle.number.specs.declared.Number.{Number}
-use Rattle.number.specs.Number.{read_number}
-use Rattle.parser.specs.declared.Field.{Field}
-use Rattle.parser.specs.declared.Field.TheVariants.{Value, Refused}
-use Rattle.parser.specs.declared.State.{State}
+use Rattle.number.specs.Number.{Number, read_number}
+use Rattle.parser.specs.Parse.{Field}
+use Rattle.parser.specs.Parse.{Value, Refused}
+use Rattle.parser.specs.Parse.{State}
 use Rattle.limits.specs.Limits.{max_clocks, max_ceiling, max_locations, max_edges, newest_mark}
 use Rattle.model.specs.Each.{each}
 use Rattle.parser.specs.Parse.{within, field_at, on_field, unless_stopped, going, stopped, blank, refused, finish, kind_at, invariant_at, ends_at, guard_at, parse_location, parse_edge, parse_body, parse_counts, parse_model}
 use Rattle.plan_reader.specs.Accept.{judged, read_model}
 use Rattle.parser.specs.Longest.{location_bytes, edge_bytes, header_bytes, max_model_bytes}
 use Rattle.parser.proofs.Fields.{field_value}
-use Rattle.number.specs.declared.Number.TheVariants as number
+use Rattle.number.specs.Number as number
 
 -- rounds that do the same, as long as what each of them keeps holds
 each_same : {A : Type 0} (P : ℕ → A → Type 0) (f g : ℕ → A → A) (n : ℕ) (s : A) → P 0 s

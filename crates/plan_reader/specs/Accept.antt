@@ -1,6 +1,6 @@
 -- 01: "A model is accepted when it is refused neither for its bytes (here 1 to 6) nor for a walk (7)."
 use Rattle.std.specs.Prelude.{ℕ, ◌≡◌, List, cond, eqb}
-use Rattle.parser.specs.declared.Reading.{Reading}
+use Rattle.parser.specs.Parse.{Reading}
 use Rattle.limits.specs.Limits.{KnownMark}
 use Rattle.parser.specs.Parse.{refused, parse_model}
 use Rattle.model.specs.Model.{Lawful, Tidy}

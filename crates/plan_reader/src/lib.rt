@@ -2,24 +2,21 @@
 #![tactic(auto)]
 
 ghost use Rattle.std.specs.Prelude.{◌≡◌};
+ghost use Rattle.parser.specs.Parse.{numbered};
 ghost use Rattle.plan_reader.specs.Accept.{read_model};
 
 use edge_walks::leaves_unreset;
-use limits::refusal::UNRESET_WALK;
-use parser::Reading;
+use limits::refusal::Refusal;
+use model::Plan;
 
-// The model that the bytes spell, or the refusal, 1 to 7.
-pub fn read_model(bytes: &[u8]) -> Reading
-    ensures { result ≡ read_model bytes.now }
+// The plan that the bytes spell, or the refusal, 1 to 7.
+#[tactic(auto, using(parser::proofs::Stops::code_some), unfolding(crate::specs::Accept::read_model))]
+pub fn read_model(bytes: &[u8]) -> Result<Plan, Refusal>
+    ensures { numbered result ≡ read_model bytes.now }
 {
-    let r = parser::parse_model(bytes);
-    let refusal = r.refusal;
-    if refusal != 0 {
-        return r;
+    let plan = parser::parse_model(bytes)?;
+    if leaves_unreset(&plan.model) {
+        return Err(Refusal::UnresetWalk);
     }
-    let m = r.model;
-    if leaves_unreset(m) {
-        return parser::refuse(UNRESET_WALK);
-    }
-    r
+    Ok(plan)
 }

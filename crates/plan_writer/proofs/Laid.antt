@@ -3,7 +3,7 @@ use Prim.Native.Nat.{ℕ, suc, zero, ◌+◌, ◌≤◌, ◌<◌}
 use native.Mathlib.Omega.{arith}
 use native.Mathlib.Numerals.{add-one}
 use mathlib.Core.Path.{◌≡◌, refl, sym, ap, ◌∙◌}
-use mathlib.Core.List.{List, [], ◌∷◌, ◌++◌, append-nil}
+use mathlib.Core.List.{List, [], ◌∷◌, ◌++◌, append-nil, append_assoc}
 use mathlib.Core.Bool.{Bool, true, false}
 use lib.ListN.{length, length-append, get_or, take}
 use lib.Seq.{take-suc, take-length}
@@ -14,13 +14,10 @@ use Rattle.number.proofs.Spelling.{spell_append}
 use Rattle.spelling.specs.Lays.{Lays, max_bytes}
 use Rattle.canonical.proofs.Shortest.{plan_most}
 use Rattle.spelling.proofs.Lays.{lays_none, lays_then, lays_as}
-use Rattle.limits.specs.Limits.{max_clocks, max_edges}
-use Rattle.stay_limits.specs.Stay.{Highs}
-use Rattle.model.specs.declared.Model.{Model}
-use Rattle.parser.specs.declared.Reading.{Reading}
-use Rattle.stay_fields.specs.Resolve.{default_at}
+use Rattle.parser.specs.Parse.{Reading}
 use Rattle.model.specs.Each.{gather}
-use Rattle.model.specs.Model.{limit_at, Lawful}
+use Rattle.model.specs.Model.{Lawful, limit_at}
+use Rattle.stay_fields.specs.Resolve.{default_at}
 use Rattle.canonical.specs.Canonical.{numbers_of, plan_numbers, shortest_plan, header_numbers, stay_numbers, location_numbers, edge_numbers}
 
 pub spell_one : (v : ℕ) → spell v ≡ spell_all (v ∷ [])
@@ -40,39 +37,41 @@ room_then vs ws h a =
 pub room_first : (at : ℕ) (vs ws : List ℕ) → at + length (spell_all (vs ++ ws)) ≤ max_bytes → at + length (spell_all vs) ≤ max_bytes
 room_first at vs ws h = omega (arith, ap length (spell_append vs ws), length-append (spell_all vs) (spell_all ws))
 
--- ---- rounds
+-- ---- rounds, after what comes first
 
-module _ (f : ℕ → List ℕ) where
-  pub laid_none : (o : List ℕ) (at : ℕ) → Lays o o at at (spell_all (gather 0 f))
-  unfolding gather spell_all
-  laid_none o at = lays_none o at
-
-  pub laid_next : {o o₁ o₂ : List ℕ} {at r s : ℕ} (x : ℕ) → Lays o o₁ at r (spell_all (gather x f)) → Lays o₁ o₂ r s (spell_all (f x))
-      → Lays o o₂ at s (spell_all (gather (x + 1) f))
+module _ (hs : List ℕ) (f : ℕ → List ℕ) where
+  pub laid_first : {o o₁ : List ℕ} {at r : ℕ} → Lays o o₁ at r (spell_all hs) → Lays o o₁ at r (spell_all (hs ++ gather 0 f))
   unfolding gather
-  laid_next x a b = rw add-one (laid_then (gather x f) (f x) a b)
+  laid_first a = lays_as a (ap spell_all (sym (append-nil hs)))
 
-  part : (n x : ℕ) → x < n → length (spell_all (gather x f)) + length (spell_all (f x)) ≤ length (spell_all (gather n f))
+  pub laid_next : {o o₁ o₂ : List ℕ} {at r s : ℕ} (x : ℕ) → Lays o o₁ at r (spell_all (hs ++ gather x f)) → Lays o₁ o₂ r s (spell_all (f x))
+      → Lays o o₂ at s (spell_all (hs ++ gather (x + 1) f))
+  unfolding gather
+  laid_next x a b = rw add-one (lays_as (laid_then (hs ++ gather x f) (f x) a b) (ap spell_all (append_assoc hs (gather x f) (f x))))
+
+  part : (n x : ℕ) → x < n → length (spell_all (hs ++ gather x f)) + length (spell_all (f x)) ≤ length (spell_all (hs ++ gather n f))
   unfolding gather
   part zero x h = absurd (omega arith)
   part (suc n) x h = go (eqb x n) refl (part n x)
     where
-      whole : length (spell_all (gather n f ++ f n)) ≡ length (spell_all (gather n f)) + length (spell_all (f n))
-      whole = ap length (spell_append (gather n f) (f n)) ∙ length-append (spell_all (gather n f)) (spell_all (f n))
+      whole : length (spell_all (hs ++ (gather n f ++ f n))) ≡ length (spell_all (hs ++ gather n f)) + length (spell_all (f n))
+      whole =
+          ap (λ (l : List ℕ). length (spell_all l)) (sym (append_assoc hs (gather n f) (f n))) ∙ ap length (spell_append (hs ++ gather n f) (f n))
+          ∙ length-append (spell_all (hs ++ gather n f)) (spell_all (f n))
 
-      go : (t : Bool) → eqb x n ≡ t → (x < n → length (spell_all (gather x f)) + length (spell_all (f x)) ≤ length (spell_all (gather n f)))
-          → length (spell_all (gather x f)) + length (spell_all (f x)) ≤ length (spell_all (gather n f ++ f n))
+      go : (t : Bool) → eqb x n ≡ t → (x < n → length (spell_all (hs ++ gather x f)) + length (spell_all (f x)) ≤ length (spell_all (hs ++ gather n f)))
+          → length (spell_all (hs ++ gather x f)) + length (spell_all (f x)) ≤ length (spell_all (hs ++ (gather n f ++ f n)))
       go true q ih = rw (eqb-true x n q, whole) (omega arith)
       go false q ih = let d = eqb-false x n q in omega (arith, whole, ih (omega arith))
 
   -- there is room for one more
-  pub room_next : {o o₁ : List ℕ} {at r : ℕ} (n x : ℕ) → at + length (spell_all (gather n f)) ≤ max_bytes → Lays o o₁ at r (spell_all (gather x f))
-      → x < n → r + length (spell_all (f x)) ≤ max_bytes
+  pub room_next : {o o₁ : List ℕ} {at r : ℕ} (n x : ℕ) → at + length (spell_all (hs ++ gather n f)) ≤ max_bytes
+      → Lays o o₁ at r (spell_all (hs ++ gather x f)) → x < n → r + length (spell_all (f x)) ≤ max_bytes
   room_next n x h a l = omega (arith, a.end, part n x l)
 
-  pub laid_all : {o o₁ : List ℕ} {at r : ℕ} (n x : ℕ) → Lays o o₁ at r (spell_all (gather x f)) → x ≤ n → n ≤ x
-      → Lays o o₁ at r (spell_all (gather n f))
-  laid_all n x a p q = let e : x ≡ n = omega arith in lays_as a (ap (λ (k : ℕ). spell_all (gather k f)) e)
+pub laid_none : (f : ℕ → List ℕ) (o : List ℕ) (at : ℕ) → Lays o o at at (spell_all (gather 0 f))
+unfolding gather spell_all
+laid_none f o at = lays_none o at
 
 -- ---- numbers of a list
 
@@ -96,6 +95,12 @@ pub plan_room : (r : Reading) → Lawful r.model
 unfolding shortest_plan plan_numbers numbers_of
 plan_room r ok = omega (arith, plan_most r ok)
 
+pub spelled_same : {o o₁ : List ℕ} {at r : ℕ} {vs ws : List ℕ} → Lays o o₁ at r (spell_all vs) → vs ≡ ws → Lays o o₁ at r (spell_all ws)
+spelled_same a e = lays_as a (ap spell_all e)
+
+pub room_same : (at : ℕ) (vs ws : List ℕ) → at + length (spell_all ws) ≤ max_bytes → vs ≡ ws → at + length (spell_all vs) ≤ max_bytes
+room_same at vs ws h e = omega (arith, ap (λ (l : List ℕ). length (spell_all l)) e)
+
 -- ---- a stay field
 
 pub stay_blank : (r : Reading) (l x b : ℕ) → b ≡ default_at r.mark r.model l x → limit_at r.model l x ≡ b → 0 ∷ [] ≡ stay_numbers r l x
@@ -104,13 +109,3 @@ stay_blank r l x b d e = simp (eq-eqb (limit_at r.model l x) _ (e ∙ d))
 pub stay_written : (r : Reading) (l x b : ℕ) → b ≡ default_at r.mark r.model l x → (limit_at r.model l x ≡ b → ⊥)
     → (limit_at r.model l x + 1) ∷ [] ≡ stay_numbers r l x
 stay_written r l x b d ne = simp (ne_eqb (limit_at r.model l x) _ (λ e. ne (e ∙ sym d)))
-
--- what the edges of a lawful model need for it
-pub blank_needs : (m : Model) → Lawful m → (x : ℕ) → x < max_clocks → ((m.edges ≤ max_edges) × (x < max_clocks)) × Highs m.upper
-blank_needs m ok x h = ((ok.edges, h), λ i. omega (arith, ok.ranges.upper i, ok.ceiling))
-
-pub spelled_same : {o o₁ : List ℕ} {at r : ℕ} {vs ws : List ℕ} → Lays o o₁ at r (spell_all vs) → vs ≡ ws → Lays o o₁ at r (spell_all ws)
-spelled_same a e = lays_as a (ap spell_all e)
-
-pub room_same : (at : ℕ) (vs ws : List ℕ) → at + length (spell_all ws) ≤ max_bytes → vs ≡ ws → at + length (spell_all vs) ≤ max_bytes
-room_same at vs ws h e = omega (arith, ap (λ (l : List ℕ). length (spell_all l)) e)

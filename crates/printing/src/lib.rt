@@ -20,11 +20,8 @@ fn write_some<W: Write>(to: &mut W, text: &[u8]) -> io::Result<usize>
     'tries: for _ in 0..u64::MAX {
         match to.write(text) {
             Ok(n) => return Ok(n),
-            Err(e) => {
-                if e.kind() != ErrorKind::Interrupted {
-                    return Err(e);
-                }
-            }
+            Err(e) if e.kind() == ErrorKind::Interrupted => {}
+            Err(e) => return Err(e),
         }
     }
     Err(io::Error::from(ErrorKind::TimedOut))
@@ -76,7 +73,7 @@ pub fn refuse<W: Write>(to: &mut W, number: u8) -> io::Result<()>
     ensures { Writes (W.contents to.old) (W.contents to.new) result
         (refusal_text number) }
 {
-    line(to, b"refused ", number as u64)
+    line(to, b"refused ", u64::from(number))
 }
 
 // The first n bytes, or none where there are fewer.
@@ -84,8 +81,8 @@ pub fn send<W: Write>(to: &mut W, out: &[u8], n: usize) -> io::Result<()>
     ensures { Writes (W.contents to.old) (W.contents to.new) result
         (if nat_le n (length out.now) then take n out.now else []) }
 {
-    if n <= out.len() {
-        say(to, &out[..n])?;
+    match out.get(..n) {
+        Some(front) => say(to, front),
+        None => Ok(()),
     }
-    Ok(())
 }

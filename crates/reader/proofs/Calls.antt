@@ -4,9 +4,8 @@ use mathlib.Core.Path.{◌≡◌, refl, sym, ap, ap₂, subst, ◌∙◌}
 use mathlib.Core.Logic.{◌↔◌}
 use mathlib.Core.List.{List, [], ◌∷◌, ◌++◌, append_assoc, append-nil}
 use lib.ListN.{length, drop, replicate}
-use Rattle.number.specs.declared.Spelled.TheVariants.{Refused}
 use Rattle.number.specs.Number.{spell_all}
-use Rattle.number.specs.Shortest.{number_in}
+use Rattle.number.specs.Shortest.{Refused, number_in}
 use Rattle.number.specs.Sequence.{SpelledBy, SpellsAll, SpellsShortest}
 use Rattle.number.proofs.Laws.{read_none}
 use Rattle.number.proofs.Shortest.{shortest_law, told_refused, number_in_lem}

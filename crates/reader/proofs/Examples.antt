@@ -2,9 +2,8 @@
 use Prim.Native.Nat.{ℕ}
 use mathlib.Core.Path.{◌≡◌, refl}
 use mathlib.Core.List.{[], ◌∷◌}
-use Rattle.number.specs.declared.Spelled.TheVariants.{Shortest, Padded, Refused}
 use Rattle.number.specs.Number.{read_number, spell}
-use Rattle.number.specs.Shortest.{read_spelled}
+use Rattle.number.specs.Shortest.{Shortest, Padded, Refused, read_spelled}
 use Rattle.reader.specs.declared.Reader.{Reader}
 use Rattle.reader.specs.Reader.{after_number}
 use Rattle.reader.specs.Calls.{answers}

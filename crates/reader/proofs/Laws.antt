@@ -5,19 +5,15 @@ use mathlib.Core.Path.{◌≡◌, refl, ap, sym, subst, ◌∙◌}
 use mathlib.Core.Logic.{◌↔◌, ⊎_elim}
 use mathlib.Core.List.{List, [], ◌∷◌, ◌++◌}
 use lib.ListN.{length, get_or, drop}
-use Rattle.number.specs.declared.Number.{Number}
-use Rattle.number.specs.declared.Number.TheVariants.{Value}
-use Rattle.number.specs.declared.Spelled.{Spelled}
-use Rattle.number.specs.declared.Spelled.TheVariants.{Shortest, Padded, Refused}
-use Rattle.number.specs.Number.{EndsTooSoon, ThirdTopBit, read_number, on_number}
-use Rattle.number.specs.Shortest.{ShortestForm, PaddedForm, read_spelled, number_in}
+use Rattle.number.specs.Number.{Number, Value, EndsTooSoon, ThirdTopBit, read_number, on_number}
+use Rattle.number.specs.Shortest.{Spelled, Shortest, Padded, Refused, ShortestForm, PaddedForm, read_spelled, number_in}
 use Rattle.number.specs.Answer.{Answer}
 use Rattle.number.proofs.Laws.{read_short, read_long}
 use Rattle.number.proofs.Shortest.{shortest_law, padded_law, refused_law, number_in_lem}
 use Rattle.number.proofs.Sequence.{value_within, refused_within}
 use Rattle.reader.specs.declared.Reader.{Reader}
-use Rattle.reader.specs.Reader.{after_number, next_number, number_answer, next_answer, advanced}
-use Rattle.number.specs.declared.Number.TheVariants as number
+use Rattle.reader.specs.Reader.{after_number, after_found, next_number, number_answer, next_answer, advanced}
+use Rattle.number.specs.Number as number
 
 module _ (bs : List ℕ) (at : ℕ) where
   pub after_value : (v to : ℕ) → read_number bs at ≡ Value v to → after_number bs at ≡ to
@@ -25,7 +21,7 @@ module _ (bs : List ℕ) (at : ℕ) where
   after_value v to e = ap (λ (n : Number). on_number n (λ v to. to) (λ r. at)) e
 
   -- by what is told: after a number in either form, and where it is for a refusal
-  pub after_told : (s : Spelled) → read_spelled bs at ≡ s → after_number bs at ≡ on_number (number_in s) (λ v to. to) (λ r. at)
+  pub after_told : (s : Spelled) → read_spelled bs at ≡ s → after_number bs at ≡ after_found s at
   unfolding after_number
   after_told s e = ap (λ (n : Number). on_number n (λ v to. to) (λ r. at)) (sym (number_in_lem bs at) ∙ ap number_in e)
 

@@ -1,9 +1,7 @@
 -- Several calls of `next`, one after the other.
 use Rattle.std.specs.Prelude.{ℕ, zero, suc, ◌≡◌, List, [], ◌∷◌}
-use Rattle.number.specs.declared.Number.TheVariants.{Value}
-use Rattle.number.specs.declared.Spelled.{Spelled}
-use Rattle.number.specs.declared.Spelled.TheVariants.{Shortest}
-use Rattle.number.specs.Shortest.{number_in}
+use Rattle.number.specs.Number.{Value}
+use Rattle.number.specs.Shortest.{Spelled, Shortest, number_in}
 use Rattle.reader.specs.declared.Reader.{Reader}
 use Rattle.reader.specs.Reader.{next_number, advanced}
 

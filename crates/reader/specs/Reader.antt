@@ -2,16 +2,18 @@
 -- and "the reader's is the number, and it then stands after it". 02 (b): "The number reader, the outside one too, shall tell with each number whether
 -- the form was shortest, and never gives 15 itself".
 use Rattle.std.specs.Prelude.{ℕ, List, [], ◌∷◌}
-use Rattle.number.specs.declared.Spelled.{Spelled}
-use Rattle.number.specs.declared.Spelled.TheVariants.{Shortest, Padded, Refused}
 use Rattle.number.specs.Number.{read_number, on_number}
-use Rattle.number.specs.Shortest.{read_spelled}
+use Rattle.number.specs.Shortest.{Spelled, Shortest, Padded, Refused, read_spelled, number_in}
 use Rattle.number.specs.Answer.{Answer}
 use Rattle.reader.specs.declared.Reader.{Reader}
 
 -- the offset after the number at an offset, or that offset where the number is refused
 unfoldable pub after_number : List ℕ → ℕ → ℕ
 after_number bs at = on_number (read_number bs at) (λ v to. to) (λ r. at)
+
+-- the same by what is told there
+abbrev pub after_found : Spelled → ℕ → ℕ
+after_found s at = on_number (number_in s) (λ v to. to) (λ r. at)
 
 -- the next number, told by its form, or its refusal
 abbrev pub next_number : Reader → Spelled

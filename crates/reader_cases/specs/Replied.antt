@@ -1,14 +1,16 @@
--- What a reader that stands at an offset gives, and where it then stands.
-use Rattle.std.specs.Prelude.{ℕ, Bool, true, false, List}
-use Rattle.std.specs.Borrow.{Bor}
-use Rattle.number.specs.declared.Spelled.{Spelled}
-use Rattle.number.specs.declared.Spelled.TheVariants.{Shortest, Padded, Refused}
+-- What a reader gives, and where it then stands.
+use Rattle.std.specs.Prelude.{ℕ, Bool, true, false}
+use Rattle.number.specs.Shortest.{Spelled, Shortest, Padded, Refused}
 use Rattle.reader.specs.declared.Reader.{Reader}
 use Rattle.reader.specs.Reader.{next_number, advanced}
-use Rattle.reader_cases.specs.declared.Reply.{Reply}
 
-abbrev pub reader_at : Bor (List ℕ) → ℕ → Reader
-reader_at s n = record { bytes = s; at = n }
+pub record Reply : Type 0 where
+  pub number : Spelled
+  pub at : ℕ
+
+-- the number that was given, with where the reader stands
+abbrev pub reply_of : Spelled → Reader → Reply
+reply_of n r = record { number = n; at = r.at }
 
 unfoldable pub replied : Reader → Reply
 replied r = record { number = next_number r; at = (advanced r).at }

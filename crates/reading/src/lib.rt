@@ -17,11 +17,8 @@ fn read_some<R: Read>(from: &mut R, buf: &mut [u8]) -> io::Result<usize>
     'tries: for _ in 0..u64::MAX {
         match from.read(buf) {
             Ok(n) => return Ok(n),
-            Err(e) => {
-                if e.kind() != ErrorKind::Interrupted {
-                    return Err(e);
-                }
-            }
+            Err(e) if e.kind() == ErrorKind::Interrupted => {}
+            Err(e) => return Err(e),
         }
     }
     Err(io::Error::from(ErrorKind::TimedOut))

@@ -4,7 +4,6 @@ use native.Mathlib.Omega.{arith}
 use mathlib.Core.Path.{◌≡◌, refl, sym, ap, ◌∙◌, subst}
 use mathlib.Core.Bool.{Bool, true, false, cond}
 use mathlib.Core.List.{List}
-use mathlib.Core.Option.{some, none}
 use lib.ListN.{replicate}
 use Rattle.theory.specs.Region.{Clock, fits, lawful, successor, reset_clocks, close_up}
 use Rattle.theory.proofs.Enumeration.{lawful-length}
@@ -13,7 +12,7 @@ use Rattle.limits.specs.Limits.{max_clocks}
 use Rattle.region.specs.Limits.{Clocks, Ceiling}
 use Rattle.region.specs.View.{view, struct_of, Small, time_of, later_of, mask_bits, Known}
 use Rattle.region.specs.declared.Region.{Region}
-use Rattle.region.specs.declared.Later.TheVariants.{Next, Past}
+use Rattle.std.proofs.Common.{Some, None}
 use Rattle.region.proofs.Views.{view_struct, padded_struct, reset_view}
 use Rattle.region.proofs.Packing.{lawful_small}
 
@@ -30,26 +29,26 @@ module _ (n M : ℕ) (k : Clocks n) (h : Ceiling M) where
 
   -- ---- steps
 
-  later_next : (xs : List Clock) (g : Region) → later_of (time_of n M xs) ≡ Next g
+  later_next : (xs : List Clock) (g : Region) → later_of (time_of n M xs) ≡ Some g
       → (fits (successor xs) (replicate n M) ≡ true) × (struct_of (successor xs) ≡ g)
   unfolding time_of
   later_next xs g e = by (fits (successor xs) (replicate n M)) refl e
     where
-      by : (b : Bool) → fits (successor xs) (replicate n M) ≡ b → later_of (cond b (some (successor xs)) none) ≡ Next g
+      by : (b : Bool) → fits (successor xs) (replicate n M) ≡ b → later_of (cond b (Some (successor xs)) None) ≡ Some g
           → (fits (successor xs) (replicate n M) ≡ true) × (struct_of (successor xs) ≡ g)
       by true q r = (q, cc)
       by false q r = let z : ◌≡◌ {A = ℕ} 0 1 = cc in absurd (omega arith)
 
-  pub known_next : (g x : Region) → Known n M g → later_of (time_of n M (view n g)) ≡ Next x → Known n M x × (view n x ≡ successor (view n g))
+  pub known_next : (g x : Region) → Known n M g → later_of (time_of n M (view n g)) ≡ Some x → Known n M x × (view n x ≡ successor (view n g))
   known_next g x w e =
       let (f, q) = later_next (view n g) x e in
       rw (sym q) (known_struct (successor (view n g)) (successor-lawful n M (view n g) w.lawful f))
 
-  pub known_past : (g : Region) → later_of (time_of n M (view n g)) ≡ Past → fits (successor (view n g)) (replicate n M) ≡ false
+  pub known_past : (g : Region) → later_of (time_of n M (view n g)) ≡ None → fits (successor (view n g)) (replicate n M) ≡ false
   unfolding time_of
   known_past g e = by (fits (successor (view n g)) (replicate n M)) e
     where
-      by : (b : Bool) → later_of (cond b (some (successor (view n g))) none) ≡ Past → b ≡ false
+      by : (b : Bool) → later_of (cond b (Some (successor (view n g))) None) ≡ None → b ≡ false
       by true r = let z : ◌≡◌ {A = ℕ} 0 1 = cc in absurd (omega arith)
       by false r = refl
 

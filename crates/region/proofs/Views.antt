@@ -1,20 +1,17 @@
 -- The struct's views: of one, two and three clocks; what each function of the struct computes, as a definition on a view.
-use Prim.Native.Nat.{ℕ, zero, suc, ◌+◌, ◌-◌, ◌≤◌, ◌<◌, ◌/◌, ◌%◌}
+use Prim.Native.Nat.{ℕ, zero, suc, ◌+◌, ◌-◌, ◌≤◌, ◌/◌, ◌%◌}
 use native.Mathlib.Omega.{arith}
-use native.Mathlib.Decide.{dec_lt}
 use mathlib.Core.Path.{◌≡◌, refl, sym, ap, ap₂, ◌∙◌, subst}
-use mathlib.Core.Bool.{Bool, true, false, cond, ◌&&◌, ◌||◌, or-false, and-false, and-true}
-use mathlib.Core.Logic.{◌⊎◌, inl, inr}
+use mathlib.Core.Bool.{Bool, true, false, cond, ◌&&◌, and-false, and-true}
 use mathlib.Core.List.{List, [], ◌∷◌, ◌++◌, map}
-use lib.Dec.{leb, ltb, eqb}
+use lib.Dec.{leb, eqb}
 use lib.ListN.{length, take, drop, replicate, take-append-drop}
-use Rattle.theory.specs.Region.{Clock, clock, rounded_up, fits, attains, has_rank, top_rank, raise, corners, rise_ranks, carry, successor, reset_clocks, ranks_upto, close_up, face, shares, lawful}
-use Rattle.theory.proofs.Below.{bool_ext, ltb↔, leb↔, eqb↔, and↔, or↔}
+use Rattle.theory.specs.Region.{Clock, clock, fits, attains, has_rank, top_rank, raise, corners, rise_ranks, carry, successor, reset_clocks, ranks_upto, close_up, face, shares, lawful}
 use Rattle.limits.specs.Limits.{max_clocks, max_ceiling}
 use Rattle.region.specs.Limits.{Clocks}
 use Rattle.region.specs.View.{view, nth, struct_of, Padded, Small, time_of, later_of, mask_bits}
 use Rattle.region.specs.declared.Region.{Region}
-use Rattle.region.specs.declared.Later.TheVariants.{Next, Past}
+use Rattle.std.proofs.Common.{Some, None}
 use Rattle.region.proofs.Padding.{pad, zeros, pad-fits, pad-attains, pad_top, pad-lawful, pad-close_up, pad_reset, pad-raise, pad-corners, pad-shares, pad-face}
 
 -- what holds of 1, 2 and 3 holds of each number of clocks
@@ -65,84 +62,6 @@ pub struct_pad : (k : ℕ) (xs : List Clock) → struct_of (pad k xs) ≡ struct
 struct_pad k xs = cc (nth-pad k xs 0, nth-pad k xs 1, nth-pad k xs 2)
 
 -- ---- what the struct's functions compute
-
-pub limited_law : (w r l : ℕ) → (ltb w l || (eqb w l && eqb r 0)) ≡ leb (rounded_up w r) l
-limited_law w r l =
-    let t = or↔ (ltb↔ w l) (and↔ (eqb↔ w l) (eqb↔ r 0)) in
-    bool_ext (ltb w l || (eqb w l && eqb r 0)) (leb (rounded_up w r) l)
-    (λ e. (leb↔ (rounded_up w r) l).1 (to r (t.0 e)))
-    (λ e. t.1 (back r (dec_lt w l) ((leb↔ (rounded_up w r) l).0 e)))
-  where
-    to : (r : ℕ) → (w < l) ⊎ ((w ≡ l) × (r ≡ 0)) → rounded_up w r ≤ l
-    to zero (inl h) = omega arith
-    to zero (inr h) = omega arith
-    to (suc r) (inl h) = omega arith
-    to (suc r) (inr h) = absurd (omega arith)
-
-    back : (r : ℕ) → Dec (w < l) → rounded_up w r ≤ l → (w < l) ⊎ ((w ≡ l) × (r ≡ 0))
-    back r (yes q) h = inl q
-    back zero (no q) h = inr (omega arith, refl)
-    back (suc r) (no q) h = absurd (omega arith)
-
-pub first_law : (n : ℕ) → Clocks n → (g : Region)
-    → record {
-      w1 = g.w1;
-      w2 = cond (leb 2 n) g.w2 0;
-      w3 = cond (leb 3 n) g.w3 0;
-      r1 = g.r1;
-      r2 = cond (leb 2 n) g.r2 0;
-      r3 = cond (leb 3 n) g.r3 0;
-    } ≡ struct_of (view n g)
-first_law n h g =
-    three
-    (λ n. record {
-      w1 = g.w1;
-      w2 = cond (leb 2 n) g.w2 0;
-      w3 = cond (leb 3 n) g.w3 0;
-      r1 = g.r1;
-      r2 = cond (leb 2 n) g.r2 0;
-      r3 = cond (leb 3 n) g.r3 0;
-    } ≡ struct_of (view n g))
-    refl refl refl n h
-
-pub whole_law : (n : ℕ) → Clocks n → (g : Region)
-    → (eqb g.r1 0 || ((leb 2 n && eqb g.r2 0) || (leb 3 n && eqb g.r3 0))) ≡ has_rank (view n g) 0
-whole_law n h g =
-    three (λ n. (eqb g.r1 0 || ((leb 2 n && eqb g.r2 0) || (leb 3 n && eqb g.r3 0))) ≡ has_rank (view n g) 0)
-    refl refl (simp or-false) n h
-
--- a clock of rank t goes to the next whole number
-carry_whole : (b : Bool) (w r : ℕ) → cond b (w + 1) w ≡ (cond b (clock (w + 1) 0) (clock w r)).whole
-carry_whole true w r = refl
-carry_whole false w r = refl
-
-carry_rank : (b : Bool) (w r : ℕ) → cond b 0 r ≡ (cond b (clock (w + 1) 0) (clock w r)).rank
-carry_rank true w r = refl
-carry_rank false w r = refl
-
--- all clocks of rank t do
-abbrev carried : ℕ → Region → Region
-carried t g =
-    record {
-      w1 = cond (eqb g.r1 t) (g.w1 + 1) g.w1;
-      w2 = cond (eqb g.r2 t) (g.w2 + 1) g.w2;
-      w3 = cond (eqb g.r3 t) (g.w3 + 1) g.w3;
-      r1 = cond (eqb g.r1 t) 0 g.r1;
-      r2 = cond (eqb g.r2 t) 0 g.r2;
-      r3 = cond (eqb g.r3 t) 0 g.r3;
-    }
-
-pub carried_law : (t : ℕ) (g x : Region) → x ≡ carried t g → x ≡ struct_of (carry t (view max_clocks g))
-carried_law t g x e =
-    e
-    ∙ (λ i. record {
-      w1 = carry_whole (eqb g.r1 t) g.w1 g.r1 i;
-      w2 = carry_whole (eqb g.r2 t) g.w2 g.r2 i;
-      w3 = carry_whole (eqb g.r3 t) g.w3 g.r3 i;
-      r1 = carry_rank (eqb g.r1 t) g.w1 g.r1 i;
-      r2 = carry_rank (eqb g.r2 t) g.w2 g.r2 i;
-      r3 = carry_rank (eqb g.r3 t) g.w3 g.r3 i;
-    })
 
 top_first : (n : ℕ) → Clocks n → (g : Region) → top_rank (view max_clocks (struct_of (view n g))) ≡ top_rank (view n g)
 top_first n h g = ap top_rank (view_first n h g) ∙ pad_top (max_clocks - n) (view n g)
@@ -198,62 +117,17 @@ ceiling n h M g =
     ∙ three (λ n. fits xs (take n (M ∷ M ∷ M ∷ [])) ≡ fits xs (replicate n M)) refl refl refl n h
 
 pub time_next : (n : ℕ) → Clocks n → (M : ℕ) (g x : Region) → x ≡ struct_of (successor (view n g))
-    → fits (view max_clocks x) (M ∷ M ∷ M ∷ []) ≡ true → Next x ≡ later_of (time_of n M (view n g))
+    → fits (view max_clocks x) (M ∷ M ∷ M ∷ []) ≡ true → Some x ≡ later_of (time_of n M (view n g))
 unfolding time_of
 time_next n h M g x q e =
-    rw (sym (ceiling n h M g) ∙ ap (λ (x : Region). fits (view max_clocks x) (M ∷ M ∷ M ∷ [])) (sym q) ∙ e) (ap Next q)
+    rw (sym (ceiling n h M g) ∙ ap (λ (x : Region). fits (view max_clocks x) (M ∷ M ∷ M ∷ [])) (sym q) ∙ e) (ap Some q)
 
 pub time_past : (n : ℕ) → Clocks n → (M : ℕ) (g x : Region) → x ≡ struct_of (successor (view n g))
-    → fits (view max_clocks x) (M ∷ M ∷ M ∷ []) ≡ false → Past ≡ later_of (time_of n M (view n g))
+    → fits (view max_clocks x) (M ∷ M ∷ M ∷ []) ≡ false → None ≡ later_of (time_of n M (view n g))
 unfolding time_of
 time_past n h M g x q e = rw (sym (ceiling n h M g) ∙ ap (λ (x : Region). fits (view max_clocks x) (M ∷ M ∷ M ∷ [])) (sym q) ∙ e)
 
 -- ---- resets
-
--- the clocks of a mask, cleared
-abbrev cleared : Bool → Bool → Bool → Region → Region
-cleared a b c g =
-    record {
-      w1 = cond a 0 g.w1;
-      w2 = cond b 0 g.w2;
-      w3 = cond c 0 g.w3;
-      r1 = cond a 0 g.r1;
-      r2 = cond b 0 g.r2;
-      r3 = cond c 0 g.r3;
-    }
-
-cleared_law : (a b c : Bool) (g : Region) → cleared a b c g ≡ struct_of (reset_clocks (a ∷ b ∷ c ∷ []) (view max_clocks g))
-cleared_law true true true g = refl
-cleared_law true true false g = refl
-cleared_law true false true g = refl
-cleared_law true false false g = refl
-cleared_law false true true g = refl
-cleared_law false true false g = refl
-cleared_law false false true g = refl
-cleared_law false false false g = refl
-
-zero_or_le : (b : Bool) (x k : ℕ) → x ≤ k → cond b 0 x ≤ k
-zero_or_le true x k h = omega arith
-zero_or_le false x k h = h
-
-cleared_small : (a b c : Bool) (g : Region) → Small g → Small (cleared a b c g)
-cleared_small a b c g s =
-    record {
-      w1 = zero_or_le a g.w1 max_ceiling s.w1;
-      w2 = zero_or_le b g.w2 max_ceiling s.w2;
-      w3 = zero_or_le c g.w3 max_ceiling s.w3;
-      r1 = zero_or_le a g.r1 max_clocks s.r1;
-      r2 = zero_or_le b g.r2 max_clocks s.r2;
-      r3 = zero_or_le c g.r3 max_clocks s.r3;
-    }
-
-pub clears : (mask : ℕ) (g x : Region) → Small g → x ≡ cleared (eqb (mask % 2) 1) (eqb (mask / 2 % 2) 1) (eqb (mask / 2 / 2 % 2) 1) g
-    → (x ≡ struct_of (reset_clocks (mask_bits max_clocks mask) (view max_clocks g))) × Small x
-clears mask g x s e =
-    let a = eqb (mask % 2) 1 in
-    let b = eqb (mask / 2 % 2) 1 in
-    let c = eqb (mask / 2 / 2 % 2) 1 in
-    (e ∙ cleared_law a b c g, rw e (cleared_small a b c g s))
 
 length_reset : (bs : List Bool) (xs : List Clock) → length (reset_clocks bs xs) ≡ length xs
 length_reset bs [] = refl

@@ -1,12 +1,9 @@
 -- The struct of the code, read as a region of the theory (a list of clocks), and back.
-use Rattle.std.specs.Prelude.{ℕ, zero, suc, ◌≤◌, ◌/◌, ◌%◌, ◌≡◌, Bool, true, cond, List, [], ◌∷◌, eqb, take, get_or, replicate}
-use Rattle.std.proofs.Math.Option.{Option, some, none}
+use Rattle.std.specs.Prelude.{ℕ, zero, suc, ◌≤◌, ◌/◌, ◌%◌, ◌≡◌, Bool, true, cond, List, [], ◌∷◌, eqb, take, get_or, replicate, Option, Some, None}
 use Rattle.theory.specs.Region.{Clock, clock, fits, lawful, successor}
 use Rattle.limits.specs.Limits.{max_clocks, max_ceiling}
 use Rattle.region.specs.declared.Region.{Region}
 use Rattle.region.specs.declared.Point.{Point}
-use Rattle.region.specs.declared.Later.{Later}
-use Rattle.region.specs.declared.Later.TheVariants.{Next, Past}
 
 -- the first n clocks of the struct
 abbrev pub view : ℕ → Region → List Clock
@@ -45,11 +42,11 @@ point_list p = p.x1 ∷ p.x2 ∷ p.x3 ∷ []
 
 -- the time successor of n clocks: "There is none past the ceiling."
 unfoldable pub time_of : ℕ → ℕ → List Clock → Option (List Clock)
-time_of n M xs = cond (fits (successor xs) (replicate n M)) (some (successor xs)) none
+time_of n M xs = cond (fits (successor xs) (replicate n M)) (Some (successor xs)) None
 
-abbrev pub later_of : Option (List Clock) → Later
-later_of (some xs) = Next (struct_of xs)
-later_of none = Past
+abbrev pub later_of : Option (List Clock) → Option Region
+later_of (Some xs) = Some (struct_of xs)
+later_of None = None
 
 -- "reset mask, 0..2^n-1, bit i for clock i counted from 0"
 abbrev pub mask_bits : ℕ → ℕ → List Bool

@@ -29,13 +29,6 @@ pub struct Region {
     pub r3: u8,
 }
 
-// The region next in time, or none past the ceiling.
-#[derive(Clone, Copy)]
-pub enum Later {
-    Next(Region),
-    Past,
-}
-
 // A whole point.
 #[derive(Clone, Copy)]
 pub struct Point {
@@ -51,25 +44,6 @@ pub struct Codes {
     pub c3: Word,
     pub c2: Word,
     pub c1: Word,
-}
-
-fn larger(a: u8, b: u8) -> u8
-    ensures { result ≡ max a b }
-{
-    if a <= b { b } else { a }
-}
-
-fn choose(b: bool, x: u8, y: u8) -> u8
-    ensures { result ≡ cond b x y }
-{
-    if b { x } else { y }
-}
-
-fn unit(b: bool) -> u8
-    ensures value { result ≡ cond b 1 0 }
-    ensures upper_bound { result ≤ 1 }
-{
-    if b { 1 } else { 0 }
 }
 
 // A clock is within a limit: w at rank 0, w + 1 otherwise.
@@ -92,7 +66,7 @@ fn raised(t: u8, w: u8, r: u8) -> u8
 fn count_up_to(p: bool, q: bool, s: bool, x: u8) -> u8
     ensures { result ≡ cond (p && leb 1 x) 1 0 + cond (q && leb 2 x) 1 0 + cond (s && leb 3 x) 1 0 }
 {
-    unit(p & (1 <= x)) + unit(q & (2 <= x)) + unit(s & (3 <= x))
+    u8::from(p & (1 <= x)) + u8::from(q & (2 <= x)) + u8::from(s & (3 <= x))
 }
 
 impl Codes {
@@ -123,15 +97,20 @@ impl Region {
         requires { Clocks n }
         ensures { result ≡ struct_of (view n self) }
     {
-        let second = 2 <= n;
-        let third = 3 <= n;
-        Region {
-            w1: self.w1,
-            w2: choose(second, self.w2, 0),
-            w3: choose(third, self.w3, 0),
-            r1: self.r1,
-            r2: choose(second, self.r2, 0),
-            r3: choose(third, self.r3, 0),
+        match n {
+            1 => Region {
+                w2: 0,
+                w3: 0,
+                r2: 0,
+                r3: 0,
+                ..self
+            },
+            2 => Region {
+                w3: 0,
+                r3: 0,
+                ..self
+            },
+            _ => self,
         }
     }
 
@@ -153,7 +132,7 @@ impl Region {
     pub fn top_rank(self) -> u8
         ensures { result ≡ top_rank (view max_clocks self) }
     {
-        larger(self.r1, larger(self.r2, self.r3))
+        self.r1.max(self.r2.max(self.r3))
     }
 
     // All ranks rise.
@@ -177,12 +156,12 @@ impl Region {
         ensures { result ≡ struct_of (carry t (view max_clocks self)) }
     {
         Region {
-            w1: choose(self.r1 == t, self.w1 + 1, self.w1),
-            w2: choose(self.r2 == t, self.w2 + 1, self.w2),
-            w3: choose(self.r3 == t, self.w3 + 1, self.w3),
-            r1: choose(self.r1 == t, 0, self.r1),
-            r2: choose(self.r2 == t, 0, self.r2),
-            r3: choose(self.r3 == t, 0, self.r3),
+            w1: self.w1 + u8::from(self.r1 == t),
+            w2: self.w2 + u8::from(self.r2 == t),
+            w3: self.w3 + u8::from(self.r3 == t),
+            r1: self.r1 * u8::from(self.r1 != t),
+            r2: self.r2 * u8::from(self.r2 != t),
+            r3: self.r3 * u8::from(self.r3 != t),
         }
     }
 
@@ -199,15 +178,15 @@ impl Region {
     }
 
     // The time successor of n clocks; none past the ceiling.
-    pub fn successor(self, n: u8, ceiling: u8) -> Later
+    pub fn successor(self, n: u8, ceiling: u8) -> Option<Region>
         requires { Clocks n × Small self }
         ensures { result ≡ later_of (time_of n ceiling (view n self)) }
     {
         let g = self.after(n);
         if g.fits(ceiling, ceiling, ceiling) {
-            Later::Next(g)
+            Some(g)
         } else {
-            Later::Past
+            None
         }
     }
 
@@ -245,21 +224,33 @@ impl Region {
     }
 
     // The clocks of the mask are 0.
-    fn cleared(self, mask: u8) -> Region
+    pub fn cleared(self, mask: u8) -> Region
         requires { Small self }
         ensures value { result ≡ struct_of (reset_clocks (mask_bits max_clocks mask) (view max_clocks self)) }
         ensures small { Small result }
     {
-        let a = mask % 2 == 1;
-        let b = mask / 2 % 2 == 1;
-        let c = mask / 2 / 2 % 2 == 1;
+        let (w1, r1) = if mask % 2 == 1 {
+            (0, 0)
+        } else {
+            (self.w1, self.r1)
+        };
+        let (w2, r2) = if mask / 2 % 2 == 1 {
+            (0, 0)
+        } else {
+            (self.w2, self.r2)
+        };
+        let (w3, r3) = if mask / 2 / 2 % 2 == 1 {
+            (0, 0)
+        } else {
+            (self.w3, self.r3)
+        };
         Region {
-            w1: choose(a, 0, self.w1),
-            w2: choose(b, 0, self.w2),
-            w3: choose(c, 0, self.w3),
-            r1: choose(a, 0, self.r1),
-            r2: choose(b, 0, self.r2),
-            r3: choose(c, 0, self.r3),
+            w1,
+            w2,
+            w3,
+            r1,
+            r2,
+            r3,
         }
     }
 

@@ -15,7 +15,7 @@ use Rattle.theory.specs.Adjacency.{Adjacent, Holds}
 use Rattle.theory.proofs.Below.{and_intro, and_left, and_right, ltb↔}
 use Rattle.theory.proofs.Sorted.{at_in, in_at}
 use Rattle.theory.proofs.Enumeration.{index_at}
-use Rattle.shapes.specs.Layout.{faces_at, corners_at, shapes_end, part, rows_in, faces_in}
+use Rattle.shapes.specs.Layout.{faces_at, corners_at, shapes_end, part}
 use Rattle.shapes.proofs.Parts.{part_long, part-set_before, put, put_long, put_before, put-part}
 use Rattle.region.specs.Limits.{Clocks, Ceiling}
 use Rattle.region.specs.View.{view, struct_of}
@@ -247,7 +247,3 @@ laying_next {k = k} {e} {i} {at' = at'} {t} y L h l D =
     = take-set-lt k u (i + 1) at' c ∙ ap (λ (m : List ℕ). set m (i + 1) at') (put_before k e t y a b l) in
     let g : part k e w ≡ y = part-set_before k e u (i + 1) at' c ∙ put-part k e t y a b l in
     record { long = length-set u (i + 1) at' ∙ put_long k e t y a b l ∙ L.long; rows = L.rows; faces = L.faces; laid = rw (f, g) D }
-
-pub laying_end : {n M k e i at : ℕ} {index t : List ℕ} → Clocks n → Ceiling M → Indexed n M index → Laying n M k e t i at → length (regions n M) ≤ i
-    → Holds (rows_in (length (regions n M)) t) (faces_in (length (regions n M)) t) (length (regions n M)) (face_of n M)
-laying_end k h I L w = rw (L.rows, L.faces) at (laid_end k h I L.laid w)

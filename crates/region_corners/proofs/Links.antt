@@ -6,9 +6,9 @@ use native.Mathlib.Numerals.{add-one}
 use mathlib.Core.Path.{◌≡◌, refl, sym, ap, ◌∙◌}
 use mathlib.Core.Logic.{◌↔◌, ⊎_elim}
 use mathlib.Core.List.Memᴰ
-use mathlib.Core.List.{List, [], ◌∷◌, ◌++◌, append-nil, Memᴰ}
-use lib.ListN.{length, get_or, set, drop, replicate, length-set, length-replicate, get_or-replicate}
-use lib.Seq.{get_or-set_same, get_or-set_other, drop-cons, drop-length, set_at}
+use mathlib.Core.List.{List, [], ◌∷◌, ◌++◌, Memᴰ}
+use lib.ListN.{length, get_or, set, replicate, length-set, length-replicate, get_or-replicate}
+use lib.Seq.{get_or-set_same, get_or-set_other}
 use Rattle.theory.specs.Adjacency.{Chain, end, slot, Chains}
 
 -- ---- a list that a loop fills with zeros
@@ -16,14 +16,6 @@ use Rattle.theory.specs.Adjacency.{Chain, end, slot, Chains}
 zero_later : (v : ℕ) (l : List ℕ) → replicate v 0 ++ (0 ∷ l) ≡ 0 ∷ (replicate v 0 ++ l)
 zero_later zero l = refl
 zero_later (suc v) l = ap (λ (m : List ℕ). 0 ∷ m) (zero_later v l)
-
-pub zeros_next : (l k : List ℕ) (v : ℕ) → v < length l → k ≡ replicate v 0 ++ drop v l → set k v 0 ≡ replicate (v + 1) 0 ++ drop (v + 1) l
-zeros_next l k v h e =
-    rw (e, add-one v, drop-cons l v 0 h)
-    (set_at (replicate v 0) (get_or l v 0) (drop (suc v) l) 0 v (length-replicate v 0) ∙ zero_later v (drop (suc v) l))
-
-pub zeros_end : (l k : List ℕ) (v : ℕ) → v ≡ length l → k ≡ replicate v 0 ++ drop v l → k ≡ replicate (length l) 0
-zeros_end l k v h e = e ∙ rw (h, drop-length l) (append-nil (replicate (length l) 0))
 
 -- ---- chains
 

@@ -7,7 +7,9 @@ use mathlib.Core.Path.{◌≡◌, refl, sym, ap, ◌∙◌}
 use mathlib.Core.Bool.{true}
 use mathlib.Core.List.{List, [], ◌∷◌, ◌++◌, map}
 use lib.Dec.{leb}
-use lib.ListN.{length, get_or, length-append, get_or-append}
+use lib.ListN.{length, get_or, take, drop, length-take, length-drop, length-append, get_or-append}
+use Rattle.std.proofs.lemmas.Grind.{same_number_lists}
+use Rattle.std.proofs.lemmas.List.{get_or-take, get_or-drop}
 use lib.Seq.{get_or-append-add}
 use Rattle.theory.specs.Lists.{every, same, from, flat}
 use Rattle.theory.specs.Region.{fits, lawful, corners, has_corner, face, regions}
@@ -69,7 +71,7 @@ rows_long : length face_rows ≡ rank_code_count
 unfolding face_rows
 rows_long = refl
 
-faces_long : length (flat face_rows) ≡ face_count
+pub faces_long : length (flat face_rows) ≡ face_count
 unfolding face_rows face_codes regions lawful fits face corners has_corner same
 faces_long = refl
 
@@ -94,3 +96,14 @@ module _ (c : ℕ) (h : c < rank_code_count) where
   row_entry k l =
       let r = row_at c h in
       row_place 0 face_rows c k (get_or (starts 0 face_rows) c 0 + k) (rw rows_long h) (rw r l) (omega arith) ∙ ap (λ (m : List ℕ). get_or m k 0) r
+
+  -- the places from where it begins up to where it ends
+  pub row_part : (a b : ℕ) → a ≡ get_or (starts 0 face_rows) c 0 → b ≡ get_or (starts 0 face_rows) (c + 1) 0
+      → take (b - a) (drop a (flat face_rows)) ≡ face_codes c
+  row_part a b p q =
+      let l : length (take (b - a) (drop a (flat face_rows))) ≡ length (face_codes c)
+      = simp (length-take, length-drop) (omega (arith, row_end, row_within, faces_long)) in
+      same_number_lists _ _ l
+      (λ k i. let j : k < length (face_codes c) = omega arith in
+      get_or-take (b - a) (drop a (flat face_rows)) k 0 (omega (arith, row_end)) ∙ get_or-drop a (flat face_rows) k 0
+      ∙ ap (λ (a : ℕ). get_or (flat face_rows) (a + k) 0) p ∙ row_entry k j)

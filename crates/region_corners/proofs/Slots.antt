@@ -8,8 +8,7 @@ use mathlib.Core.Bool.{true}
 use mathlib.Core.Logic.{◌↔◌}
 use mathlib.Core.List.{List, Memᴰ}
 use lib.Dec.{leb, eqb}
-use lib.ListN.{length, get_or, set, length-set}
-use lib.Seq.{get_or-set_same, get_or-set_other}
+use lib.ListN.{length, get_or}
 use Rattle.limits.specs.Limits.{slot_count, point_count}
 use Rattle.theory.specs.Lists.{some, down}
 use Rattle.theory.specs.Region.{regions, shares}
@@ -24,36 +23,12 @@ use Rattle.region.proofs.Views.{shares-view}
 use Rattle.region_corners.specs.Corners.{region_at, CornersFrom, CornerSlots}
 use Rattle.region_corners.proofs.Numbers.{At, at_struct, at_small}
 
--- ---- the slots of one region
-
-pub corners_start : {g : Region} {s : ℕ} {l : List ℕ} → CornersFrom g s 0 l l
-corners_start = record { long = refl; kept = λ k i. refl; holds = λ t i. absurd (omega arith) }
-
--- one corner more
-pub corners_next : {g : Region} {s x : ℕ} {l l' : List ℕ} → CornersFrom g s x l l' → s + x < length l'
-    → CornersFrom g s (x + 1) l (set l' (s + x) (code_at g (slot_count - x)))
-corners_next {g} {s} {x} {l} {l'} C h =
-    let c = code_at g (slot_count - x) in
-    record {
-      long = length-set l' (s + x) c ∙ C.long;
-      kept = λ k i. get_or-set_other l' (s + x) k c 0 (λ e. omega arith) ∙ C.kept k i;
-      holds = λ t i. by t i (ℕ_discrete t x);
-    }
-  where
-    by : (t : ℕ) → t < x + 1 → Dec (t ≡ x) → get_or (set l' (s + x) (code_at g (slot_count - x))) (s + t) 0 ≡ code_at g (slot_count - t)
-    by t i (yes e) = rw e (get_or-set_same l' (s + x) (code_at g (slot_count - x)) 0 h)
-    by t i (no e) =
-        get_or-set_other l' (s + x) (s + t) (code_at g (slot_count - x)) 0 (λ q. e (omega arith)) ∙ C.holds t (omega (arith, e))
-
 -- ---- the slots of the regions below i
 
 pub record Placed (n M : ℕ) (corner : List ℕ) (i : ℕ) : Type 0 where
   pub long : length corner ≡ slot_count * length (regions n M)
   pub within : i ≤ length (regions n M)
   pub holds : (j t : ℕ) → j < i → t < slot_count → get_or corner (slot_count * j + t) 0 ≡ code_at (struct_of (region_at n M j)) (slot_count - t)
-
-pub placed_start : {n M : ℕ} {corner : List ℕ} → length corner ≡ slot_count * length (regions n M) → Placed n M corner 0
-placed_start e = record { long = e; within = omega arith; holds = λ j t h i. absurd (omega arith) }
 
 pub placed_next : {n M i : ℕ} {g : Region} {corner corner' : List ℕ} → Placed n M corner i → At n M i g
     → CornersFrom g (slot_count * i) slot_count corner corner' → Placed n M corner' (i + 1)

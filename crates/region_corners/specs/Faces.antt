@@ -3,9 +3,9 @@ use Rattle.std.specs.Prelude.{◌≡◌, Bool, cond, ◌&&◌, List, [], ◌∷�
 use Rattle.theory.specs.Lists.{keep, from}
 use Rattle.theory.specs.Region.{Clock, clock, lawful, face, regions}
 use Rattle.region.specs.View.{struct_of}
-use Rattle.region.specs.declared.Region.{Region}
-use Rattle.limits.specs.Limits.{max_clocks, whole_base, rank_base, rank_code_count}
+use Rattle.limits.specs.Limits.{max_clocks, rank_base, rank_code_count}
 use Rattle.region_steps.specs.Codes.{code_of}
+pub use Rattle.region_steps.specs.Codes.{whole_code, rank_code}
 use Rattle.region_corners.specs.Corners.{region_at}
 
 -- of the regions with these numbers, the second is a face of the first: "a region whose corners are some, not all, of these"
@@ -13,13 +13,6 @@ unfoldable pub face_of : ℕ → ℕ → ℕ → ℕ → Bool
 face_of n M i j = ltb i (length (regions n M)) && (ltb j (length (regions n M)) && face (region_at n M i) (region_at n M j))
 
 -- ---- faces by ranks: a region with whole parts w has just the faces of the region with whole parts 0 and the same ranks, moved by w
-
--- the two parts of a region's code
-abbrev pub whole_code : Region → ℕ
-whole_code g = ((g.w1 * whole_base + g.w2) * whole_base + g.w3) * rank_code_count
-
-abbrev pub rank_code : Region → ℕ
-rank_code g = (g.r1 * rank_base + g.r2) * rank_base + g.r3
 
 -- the region with whole parts 0 and the ranks of a code
 abbrev pub at_origin : ℕ → List Clock

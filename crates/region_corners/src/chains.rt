@@ -2,8 +2,6 @@
 
 ghost use Rattle.region_corners.specs.Shapes.{Slotted, Chained};
 
-use limits::cast::from_word;
-use limits::zero::clear;
 use limits::{SLOTS, Word};
 use shapes::{corners_at, heads_at, links_at};
 
@@ -15,12 +13,10 @@ pub fn link_corners(regions: usize, shapes: &mut [Word])
     let corners = corners_at(regions);
     let links = links_at(regions);
     let heads = heads_at(regions);
-    clear(&mut shapes[heads..]);
-    let mut slot = 0;
-    while slot < SLOTS * regions {
-        let head = heads + from_word(shapes[corners + slot]);
+    shapes[heads..].fill(0);
+    for slot in 0..SLOTS * regions {
+        let head = heads + usize::from(shapes[corners + slot]);
         shapes[links + slot] = shapes[head];
-        slot += 1;
-        shapes[head] = slot as Word;
+        shapes[head] = (slot + 1) as Word;
     }
 }

@@ -16,10 +16,8 @@ fn put_corners(g: Region, corner: &mut [Word], s: usize)
     requires { Small g × (s + slot_count ≤ length corner.old) }
     ensures { CornersFrom g s slot_count corner.old corner.new }
 {
-    let mut t = 0;
-    while t < SLOTS {
+    for t in 0..SLOTS {
         corner[s + t] = g.code((SLOTS - t) as u8);
-        t += 1;
     }
 }
 
@@ -29,9 +27,7 @@ pub fn fill_corners(n: u8, ceiling: u8, table: &[u32], corner: &mut [Word])
         × (length corner.old ≡ slot_count * length (regions n ceiling)) }
     ensures { CornerSlots n ceiling corner.new }
 {
-    let mut i = 0;
-    while i < table.len() {
+    for i in 0..table.len() {
         put_corners(Region::unpack(table[i]), corner, SLOTS * i);
-        i += 1;
     }
 }

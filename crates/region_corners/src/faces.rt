@@ -1,7 +1,6 @@
 // The faces of every region, by the regions' numbers.
 
 ghost use Rattle.std.specs.Prelude.{◌≡◌, ℕ, ◌+◌, ◌≤◌, ◌<◌, length, get_or};
-ghost use Rattle.limits.specs.Limits.{rank_code_count};
 ghost use Rattle.theory.specs.Lists.{flat};
 ghost use Rattle.theory.specs.Region.{regions};
 ghost use Rattle.shapes.specs.Layout.{shapes_end};
@@ -12,55 +11,25 @@ ghost use Rattle.region_steps.specs.Tables.{Indexed};
 ghost use Rattle.region_corners.specs.Faces.{whole_code, rank_code, face_codes, face_rows, starts, LookedUp};
 ghost use Rattle.region_corners.specs.Shapes.{FaceShapes};
 
-use super::table::{FACE_COUNT, START_COUNT, face_list, start_list};
-use limits::cast::{from_byte, from_short, to_word};
-use limits::{RANK_BASE, RANK_CODES, WHOLE_BASE, Word};
+use super::table::face_row;
+use limits::Word;
 use region::Region;
+use region_steps::{rank_code, whole_code};
 use shapes::{corners_at, faces_at};
 
-// The part of the code of a region that its whole parts give.
-fn whole_code(g: Region) -> usize
-    requires { Small g }
-    ensures { result ≡ whole_code g }
-{
-    ((g.w1 as usize * WHOLE_BASE + g.w2 as usize) * WHOLE_BASE + g.w3 as usize) * RANK_CODES
-}
-
-// The part that its ranks give.
-fn rank_code(g: Region) -> usize
-    requires { Small g }
-    ensures value { result ≡ rank_code g }
-    ensures upper_bound { result < rank_code_count }
-{
-    (g.r1 as usize * RANK_BASE + g.r2 as usize) * RANK_BASE + g.r3 as usize
-}
-
-// The numbers of the faces of a region from place `at` on; the place after the last. The faces are those of its ranks, moved by its whole parts:
-// `list` has their codes, from place `first[c]` up to place `first[c + 1]` for the code c of the ranks.
-fn put_faces(
-    list: &[u16; FACE_COUNT],
-    first: &[u8; START_COUNT],
-    g: Region,
-    index: &[u16],
-    faces: &mut [Word],
-    at: usize,
-) -> usize
-    requires { (list.now ≡ flat face_rows) × (first.now ≡ starts 0 face_rows) × Small g
-        × (at + length (face_codes (rank_code g)) ≤ length faces.old)
+// The numbers of the faces of a region from place `at` on; the place after the last. The faces are those of its ranks, moved by its whole parts.
+fn put_faces(g: Region, index: &[u16], faces: &mut [Word], at: usize) -> usize
+    requires { Small g × (at + length (face_codes (rank_code g)) ≤ length faces.old)
         × ((k : ℕ) → k < length (face_codes (rank_code g)) → whole_code g + get_or (face_codes (rank_code g)) k 0 < length index.now) }
     ensures value { result ≡ at + length (face_codes (rank_code g)) }
     ensures looked_up { LookedUp index.now (face_codes (rank_code g)) (whole_code g) at (length (face_codes (rank_code g)))
         faces.old faces.new }
 {
     let base = whole_code(g);
-    let c = rank_code(g);
-    let to = from_byte(first[c + 1]);
-    let mut k = from_byte(first[c]);
+    let row = face_row(rank_code(g));
     let mut end = at;
-    while k < to {
-        let q = base + from_short(list[k]);
-        faces[end] = to_word(from_short(index[q]));
-        k += 1;
+    for &x in row {
+        faces[end] = index[base + usize::from(x)];
         end += 1;
     }
     end
@@ -73,17 +42,13 @@ pub fn fill_faces(n: u8, ceiling: u8, table: &[u32], index: &[u16], shapes: &mut
         × (length shapes.old ≡ shapes_end (length (regions n ceiling))) }
     ensures { FaceShapes n ceiling shapes.new }
 {
-    let list = face_list();
-    let first = start_list();
     let faces = faces_at(table.len());
     let corners = corners_at(table.len());
     shapes[0] = 0;
     let mut at = 0;
-    let mut i = 0;
-    while i < table.len() {
+    for i in 0..table.len() {
         let g = Region::unpack(table[i]);
-        at = put_faces(&list, &first, g, index, &mut shapes[faces..corners], at);
-        i += 1;
-        shapes[i] = at as Word;
+        at = put_faces(g, index, &mut shapes[faces..corners], at);
+        shapes[i + 1] = at as Word;
     }
 }

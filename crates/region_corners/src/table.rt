@@ -1,13 +1,14 @@
 // The faces of the regions of three clocks whose whole parts are 0: their codes, those of each code of ranks in a row.
-ghost use Rattle.std.specs.Prelude.{◌≡◌};
+ghost use Rattle.std.specs.Prelude.{◌≡◌, ◌<◌};
 ghost use Rattle.theory.specs.Lists.{flat};
-ghost use Rattle.region_corners.specs.Faces.{face_rows, starts};
+ghost use Rattle.region_corners.specs.Faces.{face_codes, face_rows, starts};
+ghost use Rattle.limits.specs.Limits.{rank_code_count};
 
 use limits::RANK_CODES;
 
-pub const FACE_COUNT: usize = 170;
+const FACE_COUNT: usize = 170;
 
-pub const START_COUNT: usize = RANK_CODES + 1;
+const START_COUNT: usize = RANK_CODES + 1;
 
 // The rows, one after the other; each ascends.
 const FACES: [u16; FACE_COUNT] = [
@@ -29,15 +30,26 @@ const STARTS: [u8; START_COUNT] = [
     142, 142, 142, 142, 142, 142, 142, 142, 142, 156, 156, 156, 170, 170, 170, 170, 170, 170, 170,
 ];
 
-// The rows, for a caller to hold: an index into the constant itself would copy it each time.
-pub fn face_list() -> [u16; FACE_COUNT]
-    ensures { result ≡ flat face_rows }
+fn face_list() -> &'static [u16; FACE_COUNT]
+    ensures { result.now ≡ flat face_rows }
 {
-    FACES
+    &FACES
 }
 
-pub fn start_list() -> [u8; START_COUNT]
-    ensures { result ≡ starts 0 face_rows }
+fn start_list() -> &'static [u8; START_COUNT]
+    ensures { result.now ≡ starts 0 face_rows }
 {
-    STARTS
+    &STARTS
+}
+
+// The row of a code of ranks.
+pub fn face_row(c: usize) -> &'static [u16]
+    requires { c < rank_code_count }
+    ensures { result.now ≡ face_codes c }
+{
+    let starts = start_list();
+    let list = face_list();
+    let from = usize::from(starts[c]);
+    let to = usize::from(starts[c + 1]);
+    &list[from..to]
 }

@@ -4,10 +4,10 @@ use native.Mathlib.Omega.{arith}
 use mathlib.Core.Path.{◌≡◌, refl, sym, ap, ◌∙◌}
 use mathlib.Core.Bool.{true, cond}
 use mathlib.Core.List.{List, [], ◌∷◌}
-use lib.Dec.{eqb, ltb}
+use lib.Dec.{ltb}
 use lib.ListN.{length, get_or}
 use Rattle.theory.specs.Lists.{every, from}
-use Rattle.theory.specs.Region.{clock, has_rank, ranks_upto, close_up, regions}
+use Rattle.theory.specs.Region.{clock, has_rank, ranks_upto, reset_clocks, close_up, regions}
 use Rattle.theory.specs.StateGraph.{index_in}
 use Rattle.theory.proofs.Below.{ltb↔}
 use Rattle.theory.proofs.Lists.{every_law}
@@ -16,11 +16,11 @@ use Rattle.theory.proofs.Enumeration.{region_at_lem, index_at, index_once}
 use Rattle.region.specs.Limits.{Clocks, Ceiling}
 use Rattle.region.specs.View.{view, struct_of, Small, mask_bits, Known}
 use Rattle.region.specs.declared.Region.{Region}
-use Rattle.region.proofs.Views.{clears, closes}
+use Rattle.region.proofs.Views.{closes}
 use Rattle.region.proofs.Packing.{lawful_small}
 use Rattle.region.proofs.Known.{known_struct}
 use Rattle.limits.specs.Limits.{max_clocks, whole_base, rank_base, rank_code_count, code_count}
-use Rattle.region_steps.specs.Codes.{code_of, reset_code, closed_ranks, closed_code}
+use Rattle.region_steps.specs.Codes.{whole_code, rank_code, code_of, reset_code, closed_ranks, closed_code}
 use Rattle.region_steps.specs.Tables.{Indexed}
 use Rattle.region_steps.proofs.Index.{index_own}
 
@@ -99,37 +99,26 @@ upto_ranks u v w a b c zero = refl
 upto_ranks u v w a b c (suc x) =
     ap (λ m. cond (has_rank (clock 0 a ∷ clock 0 b ∷ clock 0 c ∷ []) (suc x)) (m + 1) m) (upto_ranks u v w a b c x)
 
-closed_parts : (g : Region) → Small g
-    → ((g.w1 * whole_base + g.w2) * whole_base + g.w3) * rank_code_count + closed_code (g.r1 * (rank_base * rank_base) + g.r2 * rank_base + g.r3) ≡ code_of (struct_of (close_up (view max_clocks g)))
+closed_parts : (g : Region) → Small g → whole_code g + closed_code (rank_code g) ≡ code_of (struct_of (close_up (view max_clocks g)))
 unfolding code_of closed_ranks
 closed_parts g s =
     let up = upto_ranks g.w1 g.w2 g.w3 g.r1 g.r2 g.r3 in
-    ap (λ c. ((g.w1 * whole_base + g.w2) * whole_base + g.w3) * rank_code_count + c) digits
-    ∙ omega (arith, up g.r1, up g.r2, up g.r3)
+    ap (λ c. whole_code g + c) digits ∙ omega (arith, up g.r1, up g.r2, up g.r3)
   where
-    d1 : (g.r1 * (rank_base * rank_base) + g.r2 * rank_base + g.r3) / (rank_base * rank_base) ≡ g.r1
+    d1 : rank_code g / (rank_base * rank_base) ≡ g.r1
     d1 = omega (arith, s.r1, s.r2, s.r3)
 
-    d2 : (g.r1 * (rank_base * rank_base) + g.r2 * rank_base + g.r3) / rank_base % rank_base ≡ g.r2
+    d2 : rank_code g / rank_base % rank_base ≡ g.r2
     d2 = omega (arith, s.r1, s.r2, s.r3)
 
-    d3 : (g.r1 * (rank_base * rank_base) + g.r2 * rank_base + g.r3) % rank_base ≡ g.r3
+    d3 : rank_code g % rank_base ≡ g.r3
     d3 = omega (arith, s.r1, s.r2, s.r3)
 
-    digits : closed_code (g.r1 * (rank_base * rank_base) + g.r2 * rank_base + g.r3) ≡ closed_ranks g.r1 g.r2 g.r3
+    digits : closed_code (rank_code g) ≡ closed_ranks g.r1 g.r2 g.r3
     digits = λ i. closed_ranks (d1 i) (d2 i) (d3 i)
 
 -- the struct x is g with the clocks of the mask at 0
-pub reset_parts : (mask : ℕ) (g x : Region) → Small g
-    → x ≡ record {
-      w1 = cond (eqb (mask % 2) 1) 0 g.w1;
-      w2 = cond (eqb (mask / 2 % 2) 1) 0 g.w2;
-      w3 = cond (eqb (mask / 2 / 2 % 2) 1) 0 g.w3;
-      r1 = cond (eqb (mask % 2) 1) 0 g.r1;
-      r2 = cond (eqb (mask / 2 % 2) 1) 0 g.r2;
-      r3 = cond (eqb (mask / 2 / 2 % 2) 1) 0 g.r3;
-    }
-    → ((x.w1 * whole_base + x.w2) * whole_base + x.w3) * rank_code_count + closed_code (x.r1 * (rank_base * rank_base) + x.r2 * rank_base + x.r3) ≡ reset_code g mask
+pub reset_parts : (mask : ℕ) (g x : Region) → Small x → x ≡ struct_of (reset_clocks (mask_bits max_clocks mask) (view max_clocks g))
+    → whole_code x + closed_code (rank_code x) ≡ reset_code g mask
 reset_parts mask g x s e =
-    let (q, t) = clears mask g x s e in
-    closed_parts x t ∙ ap (λ y. code_of (struct_of (close_up (view max_clocks y)))) q ∙ ap code_of (closes (mask_bits max_clocks mask) g)
+    closed_parts x s ∙ ap (λ y. code_of (struct_of (close_up (view max_clocks y)))) e ∙ ap code_of (closes (mask_bits max_clocks mask) g)

@@ -9,7 +9,7 @@ use Rattle.theory.specs.StateGraph.{index_in}
 use Rattle.region.specs.Limits.{Clocks, Ceiling}
 use Rattle.region.specs.View.{view, struct_of, time_of, later_of, mask_bits, Known}
 use Rattle.region.specs.declared.Region.{Region}
-use Rattle.region.specs.declared.Later.TheVariants.{Next, Past}
+use Rattle.std.proofs.Common.{Some, None}
 use Rattle.region.proofs.Known.{known_small, known_next, known_past, known_reset}
 use Rattle.limits.specs.Limits.{max_clocks, code_count}
 use Rattle.region_steps.specs.Codes.{code_of, reset_code}
@@ -34,13 +34,13 @@ module _ (n M : ℕ) (clocks : Clocks n) (ceiling : Ceiling M) where
 
   module _ (index : List ℕ) (table : Indexed n M index) (g : Region) (w : Known n M g) where
     -- the time successor
-    pub later_next : (x : Region) → later_of (time_of n M (view n g)) ≡ Next x
+    pub later_next : (x : Region) → later_of (time_of n M (view n g)) ≡ Some x
         → get_or index (code_of x) 0 ≡ index_in (regions n M) (successor (view n g))
     later_next x e =
         let (k, v) = known_next n M clocks ceiling g x w e in
         indexed_at n M index table x k ∙ ap (index_in (regions n M)) v
 
-    pub later_past : later_of (time_of n M (view n g)) ≡ Past → index_in (regions n M) (successor (view n g)) ≡ length (regions n M)
+    pub later_past : later_of (time_of n M (view n g)) ≡ None → index_in (regions n M) (successor (view n g)) ≡ length (regions n M)
     later_past e = index_past n M (successor (view n g)) (known_past n M clocks ceiling g e)
 
     -- a reset

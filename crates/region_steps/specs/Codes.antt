@@ -5,7 +5,14 @@ use Rattle.limits.specs.Limits.{max_clocks, whole_base, rank_base, rank_code_cou
 use Rattle.region.specs.View.{view, struct_of, mask_bits}
 use Rattle.region.specs.declared.Region.{Region}
 
--- the whole parts as digits, and below them the ranks
+-- its two parts: the whole parts as digits, and below them the ranks
+abbrev pub whole_code : Region → ℕ
+whole_code g = ((g.w1 * whole_base + g.w2) * whole_base + g.w3) * rank_code_count
+
+abbrev pub rank_code : Region → ℕ
+rank_code g = (g.r1 * rank_base + g.r2) * rank_base + g.r3
+
+-- both
 unfoldable pub code_of : Region → ℕ
 code_of g =
     ((g.w1 * whole_base + g.w2) * whole_base + g.w3) * rank_code_count + g.r1 * (rank_base * rank_base) + g.r2 * rank_base + g.r3

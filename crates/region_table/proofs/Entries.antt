@@ -1,10 +1,10 @@
 -- The table: its length, its rule, and the bound of its entries.
-use Prim.Native.Nat.{ℕ, ◌≤◌, ◌<◌}
+use Prim.Native.Nat.{ℕ, ◌<◌}
 use native.Mathlib.Omega.{arith}
-use mathlib.Core.Path.{◌≡◌, refl, sym, ap, ◌∙◌}
+use mathlib.Core.Path.{◌≡◌, refl, sym, ◌∙◌}
 use mathlib.Core.Bool.{true, ◌&&◌}
-use mathlib.Core.List.{List, ◌++◌, Memᴰ}
-use lib.ListN.{length, get_or, drop}
+use mathlib.Core.List.{List, Memᴰ}
+use lib.ListN.{length, get_or}
 use lib.Dec.{eqb}
 use borrow.Author.Tests.{eqb-true}
 use Rattle.theory.specs.Region.{Clock, lawful, regions}
@@ -39,11 +39,9 @@ pub entry_small : (i : ℕ) → i < max_regions → get_or packed i 0 < packed_b
 entry_small i h =
     packed_below max_clocks max_ceiling all_clocks full_ceiling i (omega (arith, table_length, packed_length max_clocks max_ceiling))
 
--- for all clocks at the largest ceiling the whole table is selected
-pub whole_is : (n M : ℕ) (out₀ : List ℕ) {k : ℕ} {all out : List ℕ} → (eqb n max_clocks && eqb M max_ceiling) ≡ true → all ≡ packed → k ≡ length all
-    → out ≡ all ++ drop k out₀ → (k ≡ length (regions n M)) × (out ≡ packed_regions n M ++ drop k out₀) × (k ≤ max_regions)
-whole_is n M out₀ {k} t e h o =
+-- all clocks at the largest ceiling have as many regions as the table
+pub whole_count : (n M : ℕ) → (eqb n max_clocks && eqb M max_ceiling) ≡ true → max_regions ≡ length (regions n M)
+whole_count n M t =
     let a : n ≡ max_clocks = eqb-true n max_clocks (and_left (eqb n max_clocks) (eqb M max_ceiling) t) in
     let b : M ≡ max_ceiling = eqb-true M max_ceiling (and_right (eqb n max_clocks) (eqb M max_ceiling) t) in
-    let l : k ≡ length packed = h ∙ ap length e in
-    (rw (a, b) (l ∙ packed_length max_clocks max_ceiling), rw (a, b) (o ∙ ap (λ (x : List ℕ). x ++ drop k out₀) e), omega (arith, table_length))
+    rw (a, b) (sym table_length ∙ packed_length max_clocks max_ceiling)

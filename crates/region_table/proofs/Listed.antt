@@ -15,7 +15,7 @@ use Rattle.region.proofs.Packing.{unpack-pack, lawful_small}
 use Rattle.region.proofs.Known.{known_struct}
 use Rattle.region_table.specs.Table.{packed_regions}
 use Rattle.region_table.specs.Lookup.{found_in, Increasing}
-use Rattle.region_table.specs.declared.Found.TheVariants.{At}
+use Rattle.std.proofs.Common.{Some}
 use Rattle.region_table.proofs.Lookup.{found_at, at_found}
 use Rattle.region_table.proofs.Packed.{packed_length, packed_increasing, packed_at, packed_below}
 
@@ -32,14 +32,14 @@ module _ (n M : ℕ) (k : Clocks n) (h : Ceiling M) where
 
   -- a region is found at its index
   pub known_found : (g : Region) → Known n M g
-      → (i : ℕ) × (i < length (regions n M)) × (get_or (regions n M) i [] ≡ view n g) × (found_in (packed_regions n M) (pack g) ≡ At i)
+      → (i : ℕ) × (i < length (regions n M)) × (get_or (regions n M) i [] ≡ view n g) × (found_in (packed_regions n M) (pack g) ≡ Some i)
   known_found g w =
       let (i, l, e) = index_at n M (view n g) w.lawful in
       let p : get_or (packed_regions n M) i 0 ≡ pack g = packed_at n M k h i l ∙ ap pack_clocks e ∙ ap pack w.padded.same in
       (i, l, e, found_at (packed_regions n M) (pack g) i (packed_increasing n M k h) (omega (arith, packed_length n M)) p)
 
   -- what is found is a region, and no other struct has its number
-  pub found_known : (g : Region) → Small g → (i : ℕ) → found_in (packed_regions n M) (pack g) ≡ At i
+  pub found_known : (g : Region) → Small g → (i : ℕ) → found_in (packed_regions n M) (pack g) ≡ Some i
       → (i < length (regions n M)) × Known n M g × (get_or (regions n M) i [] ≡ view n g)
   found_known g s i e =
       let (l, p) = at_found (packed_regions n M) (pack g) i e in

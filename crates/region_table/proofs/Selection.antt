@@ -86,12 +86,3 @@ module _ (n M : ℕ) (out₀ out : List ℕ) (i k : ℕ) (v : Filled (chosen n M
       let (a, b) = filled_end (chosen n M) packed out₀ out i k v l in
       let e = chosen_law n M h c in
       (a ∙ ap length e ∙ packed_length n M, b ∙ ap (λ (x : List ℕ). x ++ drop k out₀) e)
-
--- ---- a loop that copies all
-
-keep_all : (l : List ℕ) → keep (λ x. true) l ≡ l
-keep_all [] = refl
-keep_all (x ∷ l) = ap (λ (r : List ℕ). x ∷ r) (keep_all l)
-
-pub copies : {l out₀ out : List ℕ} {i k : ℕ} → Filled (λ x. true) l out₀ out i k → length l ≤ i → (k ≡ length l) × (out ≡ l ++ drop k out₀)
-copies {l} {out₀} {out} {i} {k} v h = rw (keep_all l) at (filled_end (λ x. true) l out₀ out i k v h)

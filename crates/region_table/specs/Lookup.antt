@@ -1,17 +1,15 @@
 -- The place of a number in a list: the index of a region.
-use Rattle.std.specs.Prelude.{ℕ, ◌+◌, ◌≤◌, ◌<◌, cond, List, [], ◌∷◌, eqb, length, get_or}
+use Rattle.std.specs.Prelude.{ℕ, ◌+◌, ◌≤◌, ◌<◌, cond, List, [], ◌∷◌, eqb, length, get_or, Option, Some, None}
 use Rattle.theory.specs.Enumeration.{Sorted}
-use Rattle.region_table.specs.declared.Found.{Found}
-use Rattle.region_table.specs.declared.Found.TheVariants.{At, Nothing}
 
-abbrev pub further : Found → Found
-further (At i) = At (i + 1)
-further Nothing = Nothing
+abbrev pub further : Option ℕ → Option ℕ
+further (Some i) = Some (i + 1)
+further None = None
 
 -- where p stands first
-unfoldable pub found_in : List ℕ → ℕ → Found
-found_in [] p = Nothing
-found_in (x ∷ xs) p = cond (eqb x p) (At 0) (further (found_in xs p))
+unfoldable pub found_in : List ℕ → ℕ → Option ℕ
+found_in [] p = None
+found_in (x ∷ xs) p = cond (eqb x p) (Some 0) (further (found_in xs p))
 
 abbrev pub Increasing : List ℕ → Type 0
 Increasing = Sorted (λ x y. x < y)

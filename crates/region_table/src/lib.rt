@@ -15,13 +15,6 @@ use limits::{MAX_CEILING, MAX_CLOCKS, MAX_REGIONS};
 use region::Region;
 use table::entries;
 
-// The index of a region.
-#[derive(Clone, Copy)]
-pub enum Found {
-    At(usize),
-    Nothing,
-}
-
 // The limit of a clock of the table, where a plan has n clocks: 0 past them.
 fn limit(x: u8, n: u8, ceiling: u8) -> u8
     ensures { result ≡ cond (leb x n) ceiling 0 }
@@ -33,7 +26,7 @@ fn limit(x: u8, n: u8, ceiling: u8) -> u8
 fn is_ranked_past(n: u8, p: u32) -> bool
     ensures { result ≡ (ltb n max_clocks && ltb 0 (p % 10)) }
 {
-    ((n as usize) < MAX_CLOCKS) & (0 < p % 10)
+    (usize::from(n) < MAX_CLOCKS) & (0 < p % 10)
 }
 
 // Whether an entry of the table is a region of n clocks at the ceiling.
@@ -73,17 +66,7 @@ fn place(regions: &[u32], p: u32) -> usize
     requires { Increasing regions.now }
     ensures { Place regions.now p result }
 {
-    let mut lo = 0;
-    let mut hi = regions.len();
-    while lo < hi {
-        let mid = lo + (hi - lo) / 2;
-        if regions[mid] < p {
-            lo = mid + 1;
-        } else {
-            hi = mid;
-        }
-    }
-    lo
+    regions.partition_point(|&x| x < p)
 }
 
 // The entry to try after entry i, which is not selected.
@@ -103,21 +86,7 @@ fn next(n: u8, ceiling: u8, all: &[u32], i: usize) -> usize
 fn is_whole(n: u8, ceiling: u8) -> bool
     ensures { result ≡ eqb n max_clocks && eqb ceiling max_ceiling }
 {
-    (n as usize == MAX_CLOCKS) & (ceiling as usize == MAX_CEILING)
-}
-
-// All numbers of a slice at the front of out; how many.
-fn copy_all(all: &[u32], out: &mut [u32]) -> usize
-    requires { length all.now ≤ length out.old }
-    ensures value { result ≡ length all.now }
-    ensures out_after { out.new ≡ all.now ++ drop result out.old }
-{
-    let mut i = 0;
-    while i < all.len() {
-        out[i] = all[i];
-        i += 1;
-    }
-    i
+    (usize::from(n) == MAX_CLOCKS) & (usize::from(ceiling) == MAX_CEILING)
 }
 
 // The regions of n clocks at the ceiling, packed and in order, at the front of out; how many.
@@ -129,8 +98,10 @@ pub fn select(n: u8, ceiling: u8, out: &mut [u32]) -> usize
 {
     let all = entries();
     if is_whole(n, ceiling) {
-        return copy_all(&all, out);
+        out[..MAX_REGIONS].copy_from_slice(all);
+        return MAX_REGIONS;
     }
+    // A while: behind an entry that is not selected i passes over all that cannot be.
     let mut i = 0;
     let mut k = 0;
     while i < MAX_REGIONS {
@@ -140,24 +111,18 @@ pub fn select(n: u8, ceiling: u8, out: &mut [u32]) -> usize
             i += 1;
             k += 1;
         } else {
-            i = next(n, ceiling, &all, i);
+            i = next(n, ceiling, all, i);
         }
     }
     k
 }
 
 // The index of p in an ascending slice.
-pub fn find(regions: &[u32], p: u32) -> Found
+pub fn find(regions: &[u32], p: u32) -> Option<usize>
     requires { Increasing regions.now }
     ensures { result ≡ found_in regions.now p }
 {
-    let i = place(regions, p);
-    if i < regions.len() {
-        if regions[i] == p {
-            return Found::At(i);
-        }
-    }
-    Found::Nothing
+    regions.binary_search(&p).ok()
 }
 
 // How many regions n clocks have at the ceiling (01, "Count").
@@ -165,14 +130,11 @@ pub fn count(n: u8, ceiling: u8) -> u16
     requires { Clocks n × Ceiling ceiling }
     ensures { result ≡ length (regions n ceiling) }
 {
-    let m = ceiling as u16;
-    if n == 1 {
-        return 2 * m + 1;
-    }
-    let square = m * m;
-    if n == 2 {
-        return 6 * square + 4 * m + 1;
-    }
+    let m = u16::from(ceiling);
     let k = m + 1;
-    k * k * k + 3 * m * (k * k) + 9 * square * k + 13 * (square * m)
+    match n {
+        1 => 2 * m + 1,
+        2 => 6 * (m * m) + 4 * m + 1,
+        _ => k * k * k + 3 * m * (k * k) + 9 * (m * m) * k + 13 * (m * m * m),
+    }
 }

@@ -167,9 +167,9 @@ const TABLE: [u32; MAX_REGIONS] = [
     434010, 440000, 440001, 441000, 441001, 442000, 442001, 443000, 443001, 444000,
 ];
 
-// The table, for a caller to hold: an index into the constant itself would copy it each time.
-pub fn entries() -> [u32; MAX_REGIONS]
-    ensures { result ≡ packed }
+// The table where it stands: no caller holds a copy.
+pub fn entries() -> &'static [u32; MAX_REGIONS]
+    ensures { result.now ≡ packed }
 {
-    TABLE
+    &TABLE
 }

@@ -24,7 +24,7 @@ use Rattle.replay.specs.Spelling.{moves_numbers, trail_numbers, RestPasses}
 use Rattle.replay.specs.Trail.{run, trail_step, trail_answer}
 use Rattle.replay.proofs.Ways.{number_ind, reached_ind, Refusal, read_refusal, not_zero, told_at, told_refused}
 use Rattle.replay.proofs.Replays.{steps_told, is_steps}
-use Rattle.number.specs.declared.Number.TheVariants as number
+use Rattle.number.specs.Number as number
 use Rattle.theory.proofs.Replay as theory
 
 module _ (m : Model) (bs : List ℕ) (at : ℕ) where

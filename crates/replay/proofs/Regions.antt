@@ -17,6 +17,7 @@ use Rattle.limits.specs.Limits.{max_clocks, max_ceiling}
 use Rattle.region.specs.declared.Region.{Region}
 use Rattle.region.specs.Limits.{Clocks, Ceiling}
 use Rattle.region.specs.View.{view, nth, struct_of, Small, Known}
+use Rattle.std.specs.Prelude.{Some, None}
 use Rattle.region.specs.Packed.{pack}
 use Rattle.region_table.specs.Lookup.{found_in}
 use Rattle.region.proofs.Views.{view_struct, padded_struct, length-view}
@@ -26,12 +27,10 @@ use Rattle.model.specs.declared.Model.{Model}
 use Rattle.model.specs.Model.{Lawful}
 use Rattle.graph.specs.Plan.{automaton_of}
 use Rattle.graph.specs.States.{Listed, states}
-use Rattle.graph.specs.declared.Next.TheVariants.{To, Nothing}
 use Rattle.graph.proofs.States.{clocks_of, ceiling_of, count_length, location_is, at_missing}
 use Rattle.replay.specs.Trail.{state_beside}
 use Rattle.trail_numbers.specs.Steps.{capped, kept_region}
 use Rattle.replay.specs.Steps.{is_small, look_up}
-use Rattle.region_table.specs.declared.Found.TheVariants as found
 
 -- ---- "w1..wn, r1..rn"
 
@@ -143,7 +142,7 @@ is_small_law g =
     )
 
 module _ (m : Model) (ok : Lawful m) (s : ℕ) (below : s < states m) (xs : List Clock) where
-  pub look_none : lawful m.clocks m.ceiling xs ≡ false → Nothing ≡ look_up m s xs
+  pub look_none : lawful m.clocks m.ceiling xs ≡ false → None ≡ look_up m s xs
   unfolding look_up
   look_none t = rw t refl
 
@@ -153,20 +152,20 @@ module _ (m : Model) (ok : Lawful m) (s : ℕ) (below : s < states m) (xs : List
       number_below (automaton_of m) m.locations (location_of (automaton_of m) s) (location_below (automaton_of m) m.locations s below)
       ((lawful_law m.clocks m.ceiling xs).0 t)
 
-  pub look_to : (q : ℕ) → look_up m s xs ≡ To q → (lawful m.clocks m.ceiling xs ≡ true) × (state_beside m s xs ≡ q) × (q < states m)
+  pub look_to : (q : ℕ) → look_up m s xs ≡ Some q → (lawful m.clocks m.ceiling xs ≡ true) × (state_beside m s xs ≡ q) × (q < states m)
   unfolding look_up
   look_to q e = by (lawful m.clocks m.ceiling xs) refl e
     where
-      by : (b : Bool) → lawful m.clocks m.ceiling xs ≡ b → cond b (To (state_beside m s xs)) Nothing ≡ To q
+      by : (b : Bool) → lawful m.clocks m.ceiling xs ≡ b → cond b (Some (state_beside m s xs)) None ≡ Some q
           → (lawful m.clocks m.ceiling xs ≡ true) × (state_beside m s xs ≡ q) × (q < states m)
       by true t f = let z : state_beside m s xs ≡ q = cc in (t, z, subst (λ p. p < states m) z (beside_below t))
       by false t f = absurd (let z : ◌≡◌ {A = ℕ} 0 1 = cc in omega arith)
 
-  pub look_shut : look_up m s xs ≡ Nothing → lawful m.clocks m.ceiling xs ≡ false
+  pub look_shut : look_up m s xs ≡ None → lawful m.clocks m.ceiling xs ≡ false
   unfolding look_up
   look_shut e = by (lawful m.clocks m.ceiling xs) e
     where
-      by : (b : Bool) → cond b (To (state_beside m s xs)) Nothing ≡ Nothing → b ≡ false
+      by : (b : Bool) → cond b (Some (state_beside m s xs)) None ≡ None → b ≡ false
       by true f = absurd (let z : ◌≡◌ {A = ℕ} 0 1 = cc in omega arith)
       by false f = refl
 
@@ -182,12 +181,12 @@ module _ (m : Model) (ok : Lawful m) (table : List ℕ) (listed : Listed m table
   viewed : view m.clocks x ≡ xs
   viewed = ap (view m.clocks) first ∙ view_struct m.clocks (clocks_of m ok) xs long
 
-  pub look_large : is_small x ≡ false → Nothing ≡ look_up m s xs
+  pub look_large : is_small x ≡ false → None ≡ look_up m s xs
   look_large e = look_none m ok s below xs (false_unless_true (lawful m.clocks m.ceiling xs) λ t.
       let w = subst Small (sym first) (lawful_small m.clocks m.ceiling (clocks_of m ok) (ceiling_of m ok) xs t) in
       true≢false (sym ((is_small_law x).1 w) ∙ e))
 
-  pub look_missing : found_in table (pack x) ≡ found.Nothing → Nothing ≡ look_up m s xs
+  pub look_missing : found_in table (pack x) ≡ None → None ≡ look_up m s xs
   look_missing e = look_none m ok s below xs (false_unless_true (lawful m.clocks m.ceiling xs) λ t.
       let p = subst (λ y. Known m.clocks m.ceiling y) (sym first) (record {
         padded = padded_struct m.clocks (clocks_of m ok) xs long;
@@ -195,8 +194,8 @@ module _ (m : Model) (ok : Lawful m) (table : List ℕ) (listed : Listed m table
       }) in
       at_missing m ok table listed x p e)
 
-  module _ (small : is_small x ≡ true) (i : ℕ) (e : found_in table (pack x) ≡ found.At i) where
-    pub look_found : (s / length table * length table + i < states m) × (To (s / length table * length table + i) ≡ look_up m s xs)
+  module _ (small : is_small x ≡ true) (i : ℕ) (e : found_in table (pack x) ≡ Some i) where
+    pub look_found : (s / length table * length table + i < states m) × (Some (s / length table * length table + i) ≡ look_up m s xs)
     unfolding look_up number_of automaton_of region_count
     look_found =
         let (l, w, r) = found_known m.clocks m.ceiling (clocks_of m ok) (ceiling_of m ok) x ((is_small_law x).0 small) i
@@ -209,4 +208,4 @@ module _ (m : Model) (ok : Lawful m) (table : List ℕ) (listed : Listed m table
         (rw z at own) in
         let b = number_below (automaton_of m) m.locations (location_of (automaton_of m) s) (location_below (automaton_of m) m.locations s below)
         ((lawful_law m.clocks m.ceiling xs).0 t) in
-        (subst (λ q. q < states m) number b, rw t (ap To (sym number)))
+        (subst (λ q. q < states m) number b, rw t (ap Some (sym number)))

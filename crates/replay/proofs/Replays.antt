@@ -26,15 +26,15 @@ use Rattle.model.specs.declared.Model.{Model}
 use Rattle.model.specs.Model.{Lawful}
 use Rattle.graph.specs.Plan.{automaton_of, system_of_model, labelled_of_model}
 use Rattle.graph.specs.States.{states}
-use Rattle.replay.specs.declared.Reached.{Reached}
-use Rattle.replay.specs.declared.Reached.TheVariants.{At, Refused}
+use Rattle.replay.specs.Trail.{Reached}
+use Rattle.replay.specs.Trail.{At, Refused}
 use Rattle.replay.specs.Spelling.{label_numbers, walk_numbers, move_numbers, moves_numbers}
 use Rattle.replay.specs.Trail.{run, flow_to, walk_step, closed_walk, on_region, state_beside, face_step_to, touch_step_to, trail_step}
 use Rattle.replay.proofs.Ways.{number_ind, numbers_ind, reached_ind, bad, read_refusal, Told, reached, halted, told_at, told_refused, told_map, numbers_is, numbers_refused, is_numbers}
 use Rattle.replay.proofs.Walks.{run_told, label_is, label_refused, is_label}
 use Rattle.replay.proofs.Regions.{parts_clocks, clocks-key}
 use Rattle.replay.proofs.Steps.{start_in}
-use Rattle.number.specs.declared.Number.TheVariants as number
+use Rattle.number.specs.Number as number
 
 module _ (m : Model) (bs : List ℕ) where
   abbrev graph : LabelledSystem

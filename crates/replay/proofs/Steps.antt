@@ -1,5 +1,5 @@
 -- Time and jump steps, faces and touches, and the start, as the code has them.
-use Prim.Native.Nat.{ℕ, zero, suc, ◌-◌, ◌≤◌, ◌<◌}
+use Prim.Native.Nat.{ℕ, zero, suc, ◌≤◌, ◌<◌}
 use native.Mathlib.Omega.{arith}
 use mathlib.Core.Path.{◌≡◌, refl, sym, ap, ◌∙◌}
 use mathlib.Core.Bool.{Bool, true, false, cond}
@@ -14,14 +14,13 @@ use Rattle.theory.specs.StateGraph.{state_at, time_from, jump_from, step_from, s
 use Rattle.theory.proofs.Region.{lawful_law, allowed_law}
 use Rattle.theory.proofs.System.{start_below}
 use Rattle.theory.proofs.StateGraph.{start_allowed}
-use Rattle.number.specs.declared.Number.{Number}
-use Rattle.number.specs.Number.{on_number}
+use Rattle.number.specs.Number.{Number, on_number}
 use Rattle.evidence_number.specs.Evidence.{read_evidence}
 use Rattle.trail_numbers.specs.declared.Step.{Step}
-use Rattle.trail_numbers.specs.declared.Reading.{Reading}
 use Rattle.evidence_number.specs.Numbers.{Numbers, got, refused, on_numbers}
 use Rattle.trail_numbers.specs.Numbers.{numbers_at}
-use Rattle.trail_numbers.specs.Steps.{three_of, on_three, region_step, kept_region, region_at, jump_at, kind_at, step_at, on_reading}
+use Rattle.trail_numbers.specs.Three.{three_of, on_three}
+use Rattle.trail_numbers.specs.Steps.{Reading, region_step, kept_region, region_at, jump_at, kind_at, step_at, on_reading}
 use Rattle.region.specs.declared.Region.{Region}
 use Rattle.region.specs.View.{view, struct_of, Known}
 use Rattle.region.proofs.Views.{three as clock_cases}
@@ -29,37 +28,36 @@ use Rattle.model.specs.declared.Model.{Model}
 use Rattle.model.specs.Model.{Lawful}
 use Rattle.graph.specs.Plan.{automaton_of, system_of_model}
 use Rattle.graph.specs.States.{states, next_of}
-use Rattle.graph.specs.declared.Next.{Next}
-use Rattle.graph.specs.declared.Next.TheVariants.{To, Nothing}
+use Rattle.std.specs.Prelude.{Option, Some, None}
 use Rattle.graph.proofs.Plan.{capped, edges_length}
 use Rattle.graph.proofs.States.{clocks_of, ceiling_of}
 use Rattle.graph.proofs.Models.{system_laws}
-use Rattle.replay.specs.declared.Reached.{Reached}
-use Rattle.replay.specs.declared.Reached.TheVariants.{At, Refused}
+use Rattle.replay.specs.Trail.{Reached}
+use Rattle.replay.specs.Trail.{At, Refused}
 use Rattle.replay.specs.Trail.{flow_to, closed_walk, on_region, state_beside, face_step_to, touch_step_to, kind_step, trail_step}
 use Rattle.replay.specs.Steps.{go_to, step_to}
 use Rattle.replay.proofs.Ways.{numbers_is}
 use Rattle.replay.proofs.Regions.{kept_of, kept_view, kept_harmless}
-use Rattle.number.specs.declared.Number.TheVariants as number
+use Rattle.number.specs.Number as number
 use Rattle.trail_numbers.specs.declared.Step.TheVariants as step
-use Rattle.trail_numbers.specs.declared.Reading.TheVariants as reading
+use Rattle.trail_numbers.specs.Steps as reading
 
 -- ---- time and jump
 
 module _ (m : Model) where
   module _ (s at : ℕ) where
-    goes : (b : Bool) (q : ℕ) → go_to (cond b (To q) Nothing) at ≡ cond b (At q at) (Refused 13)
+    goes : (b : Bool) (q : ℕ) → go_to (cond b (Some q) None) at ≡ cond b (At q at) (Refused 13)
     goes true q = refl
     goes false q = refl
 
-    pub time_goes : (n : Next) → n ≡ next_of m (time_from (automaton_of m) m.locations s) → go_to n at ≡ flow_to m 0 s at
+    pub time_goes : (n : Option ℕ) → n ≡ next_of m (time_from (automaton_of m) m.locations s) → go_to n at ≡ flow_to m 0 s at
     unfolding flow_to opens labelled_of system_of step_from
     time_goes n e =
         ap (λ o. go_to o at) e
         ∙ goes (ltb (time_from (automaton_of m) m.locations s) (states m)) (time_from (automaton_of m) m.locations s)
         ∙ rw (lt-ltb 0 (suc (length (automaton_of m).edges)) (omega arith)) refl
 
-    pub jump_goes : (e : ℕ) → e < m.edges → (n : Next) → n ≡ next_of m (jump_from (automaton_of m) m.locations e s)
+    pub jump_goes : (e : ℕ) → e < m.edges → (n : Option ℕ) → n ≡ next_of m (jump_from (automaton_of m) m.locations e s)
         → go_to n at ≡ flow_to m (suc e) s at
     unfolding flow_to opens labelled_of system_of step_from
     jump_goes e b n f =
@@ -70,10 +68,6 @@ module _ (m : Model) where
     pub jump_nowhere : (e : ℕ) → m.edges ≤ e → Refused 13 ≡ flow_to m (suc e) s at
     unfolding flow_to opens labelled_of system_of
     jump_nowhere e b = rw (le-ltb (suc e) (suc (length (automaton_of m).edges)) (omega (arith, edges_length m))) refl
-
-    -- the jump of a label that is not time
-    pub label_goes : (x : ℕ) → (x ≡ 0 → ⊥) → flow_to m (suc (x - 1)) s at ≡ flow_to m x s at
-    label_goes x h = ap (λ y. flow_to m y s at) (let z : suc (x - 1) ≡ x = omega (arith, h) in z)
 
 -- ---- the start
 
@@ -93,7 +87,7 @@ module _ (m : Model) (ok : Lawful m) where
         ∙ (lawful_law m.clocks m.ceiling (origin (automaton_of m))).1 (start_allowed (capped m ok) m.start).region;
   }
 
-  pub start_at : next_of m (state_at (automaton_of m) m.locations m.start (view m.clocks zero_region)) ≡ To (system_of_model m).start
+  pub start_at : next_of m (state_at (automaton_of m) m.locations m.start (view m.clocks zero_region)) ≡ Some (system_of_model m).start
   unfolding state_at system_of automaton_of
   start_at =
       rw (
@@ -204,9 +198,9 @@ module _ (m : Model) (ok : Lawful m) (bs : List ℕ) (p : ℕ) where
       by (number.Refused r) = refl
 
   -- as the code has it
-  module _ (at : ℕ) (n : Reading) (e : n ≡ step_at m.clocks bs at) where
-    pub step_stops : (r : ℕ) → n ≡ reading.Refused r → Refused r ≡ trail_step m bs p at
-    step_stops r f = ap replayed (sym f ∙ e) ∙ step_read at
+  module _ (at : ℕ) where
+    pub step_stops : (r : ℕ) → reading.Refused r ≡ step_at m.clocks bs at → Refused r ≡ trail_step m bs p at
+    step_stops r e = ap replayed e ∙ step_read at
 
-    pub step_goes : (st : Step) (to : ℕ) → n ≡ reading.Read st to → step_to m bs st p to ≡ trail_step m bs p at
-    step_goes st to f = ap replayed (sym f ∙ e) ∙ step_read at
+    pub step_goes : (st : Step) (to : ℕ) → reading.Read st to ≡ step_at m.clocks bs at → step_to m bs st p to ≡ trail_step m bs p at
+    step_goes st to e = ap replayed e ∙ step_read at

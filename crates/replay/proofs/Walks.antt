@@ -10,38 +10,37 @@ use lib.Dec.{eqb}
 use borrow.Author.Tests.{eqb-true, eq-eqb, ne_eqb}
 use Rattle.theory.specs.Labels.{opens}
 use Rattle.theory.proofs.Below.{cond_ind}
-use Rattle.number.specs.declared.Number.{Number}
-use Rattle.number.specs.declared.Number.TheVariants.{Value, Refused}
-use Rattle.number.specs.Number.{on_number}
+use Rattle.number.specs.Number.{Number, Value, Refused, on_number}
 use Rattle.evidence_number.specs.Evidence.{read_evidence}
 use Rattle.evidence_number.proofs.Reading.{Reads, none, more, value_within, reads_first, reads_end, number_suffix, moved, reads_prefix}
 use Rattle.trail_numbers.specs.Numbers.{jump_label, kind_label, label_at}
 use Rattle.model.specs.declared.Model.{Model}
 use Rattle.graph.specs.Plan.{labelled_of_model}
-use Rattle.replay.specs.declared.Reached.{Reached}
+use Rattle.replay.specs.Trail.{Reached}
 use Rattle.replay.specs.Spelling.{label_numbers}
 use Rattle.replay.specs.Trail.{on_reached, run, flow_to, walk_step, closed_walk}
 use Rattle.replay.specs.Steps.{steps_end, walk_part}
 use Rattle.replay.proofs.Ways.{number_ind, Refusal, bad, read_refusal, Told, reached, halted, told_map}
-use Rattle.replay.specs.declared.Reached.TheVariants as reached
+use Rattle.replay.specs.Trail as reached
 
 -- ---- steps one after the other
 
-module _ (step : ℕ → ℕ → Reached) (k p at : ℕ) where
-  one_more : 0 < k → run step k p at ≡ run step (suc (k - 1)) p at
+-- the step after the first i of k
+module _ (step : ℕ → ℕ → Reached) (k i p at : ℕ) where
+  one_more : i < k → run step (k - i) p at ≡ run step (suc (k - (i + 1))) p at
   one_more h = ap (λ (j : ℕ). run step j p at) (omega arith)
 
-  pub run_more : (q to : ℕ) → 0 < k → step p at ≡ reached.At q to → run step k p at ≡ run step (k - 1) q to
+  pub run_more : (q to : ℕ) → i < k → step p at ≡ reached.At q to → run step (k - i) p at ≡ run step (k - (i + 1)) q to
   unfolding run
   run_more q to h e = one_more h ∙ simp e
 
-  pub run_stop : (r : ℕ) → 0 < k → step p at ≡ reached.Refused r → run step k p at ≡ reached.Refused r
+  pub run_stop : (r : ℕ) → i < k → step p at ≡ reached.Refused r → run step (k - i) p at ≡ reached.Refused r
   unfolding run
   run_stop r h e = one_more h ∙ simp e
 
-  pub run_done : k ≤ 0 → run step k p at ≡ reached.At p at
+  pub run_done : k ≤ i → run step (k - i) p at ≡ reached.At p at
   unfolding run
-  run_done h = ap (λ (j : ℕ). run step j p at) (let e : k ≡ 0 = omega arith in e)
+  run_done h = ap (λ (j : ℕ). run step j p at) (let e : k - i ≡ 0 = omega arith in e)
 
 -- what is told of each step, added up
 module _ (step : ℕ → ℕ → Reached) (R : ℕ → ℕ → ℕ → ℕ → Type 0) (each : (p at : ℕ) → Told (R p at) (step p at))
@@ -147,21 +146,21 @@ module _ (bs : List ℕ) (a : ℕ) where
 
 -- ---- where the steps of a walk end
 
-module _ (bs : List ℕ) (k at : ℕ) where
-  one_left : 0 < k → steps_end bs k at ≡ steps_end bs (suc (k - 1)) at
+module _ (bs : List ℕ) (k i at : ℕ) where
+  one_left : i < k → steps_end bs (k - i) at ≡ steps_end bs (suc (k - (i + 1))) at
   one_left h = ap (λ (j : ℕ). steps_end bs j at) (omega arith)
 
-  pub end_more : (x to : ℕ) → 0 < k → label_at bs at ≡ Value x to → steps_end bs k at ≡ steps_end bs (k - 1) to
+  pub end_more : (x to : ℕ) → i < k → label_at bs at ≡ Value x to → steps_end bs (k - i) at ≡ steps_end bs (k - (i + 1)) to
   unfolding steps_end
   end_more x to h e = one_left h ∙ simp e
 
-  pub end_stop : (r : ℕ) → 0 < k → label_at bs at ≡ Refused r → steps_end bs k at ≡ length bs
+  pub end_stop : (r : ℕ) → i < k → label_at bs at ≡ Refused r → steps_end bs (k - i) at ≡ length bs
   unfolding steps_end
   end_stop r h e = one_left h ∙ simp e
 
-  pub end_done : k ≤ 0 → steps_end bs k at ≡ at
+  pub end_done : k ≤ i → steps_end bs (k - i) at ≡ at
   unfolding steps_end
-  end_done h = ap (λ (j : ℕ). steps_end bs j at) (let e : k ≡ 0 = omega arith in e)
+  end_done h = ap (λ (j : ℕ). steps_end bs j at) (let e : k - i ≡ 0 = omega arith in e)
 
 module _ (bs : List ℕ) where
   pub end_within : (k at : ℕ) → at ≤ length bs → (at ≤ steps_end bs k at) × (steps_end bs k at ≤ length bs)
@@ -296,9 +295,6 @@ module _ (bs : List ℕ) (at k p : ℕ) (e : read_evidence bs at ≡ Value k p) 
         let z : length w ≡ steps_end bs k p - p
         = ap length hw ∙ length-take-le (steps_end bs k p - p) (drop p bs) (omega (arith, length-drop p bs)) in
         omega arith
-
-    pub part_fits : p + length w ≤ length bs
-    part_fits = omega (arith, part_end, end_within bs k p part_within)
 
     module _ (m : Model) (q : ℕ) (d : Reached) (hd : d ≡ run (walk_step m w) k q 0) where
       part_walk : d ≡ moved_back p (run (walk_step m bs) k q p)

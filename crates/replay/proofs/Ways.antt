@@ -5,16 +5,15 @@ use mathlib.Core.Path.{◌≡◌, refl, ap, subst}
 use mathlib.Core.Logic.{◌⊎◌, inl, inr}
 use mathlib.Core.List.{List, ◌∷◌}
 use lib.ListN.{length}
-use Rattle.number.specs.declared.Number.{Number}
-use Rattle.number.specs.Number.{on_number}
+use Rattle.number.specs.Number.{Number, on_number}
 use Rattle.evidence_number.specs.Evidence.{read_evidence, NumberRefusal}
 use Rattle.evidence_number.proofs.Reading.{Reads, none, more, refused_within, refusal_positive}
 use Rattle.evidence_number.specs.Numbers.{Numbers, got, refused, on_numbers}
 use Rattle.trail_numbers.specs.Numbers.{numbers_at}
-use Rattle.replay.specs.declared.Reached.{Reached}
-use Rattle.replay.specs.declared.Reached.TheVariants.{At, Refused}
+use Rattle.replay.specs.Trail.{Reached}
+use Rattle.replay.specs.Trail.{At, Refused}
 use Rattle.replay.specs.Trail.{on_reached}
-use Rattle.number.specs.declared.Number.TheVariants as number
+use Rattle.number.specs.Number as number
 
 -- a property of each way is one of what comes of the reading
 module _ {A : Type 0} (P : A → Type 0) where

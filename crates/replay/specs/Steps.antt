@@ -1,5 +1,7 @@
 -- Steps as the code replays them, and the part of the bytes that spells a walk.
-use Rattle.std.specs.Prelude.{ℕ, zero, suc, ◌-◌, ◌<◌, Bool, cond, ◌&&◌, List, length, take, drop, leb}
+use Rattle.std.specs.Prelude.{ℕ, zero, suc, ◌-◌, Bool, cond, ◌&&◌, List, length, take, drop, leb, Option, Some, None, Result, Ok, Err}
+use Rattle.limits.specs.declared.refusal.Refusal.{Refusal}
+use Rattle.limits.specs.Refusal.{code_of}
 use Rattle.theory.specs.Region.{Clock, lawful}
 use Rattle.limits.specs.Limits.{max_clocks, max_ceiling}
 use Rattle.number.specs.Number.{on_number}
@@ -7,32 +9,25 @@ use Rattle.trail_numbers.specs.declared.Step.{Step}
 use Rattle.trail_numbers.specs.declared.Step.TheVariants.{Time, Jump, Face, Touch}
 use Rattle.trail_numbers.specs.Numbers.{label_at}
 use Rattle.model.specs.declared.Model.{Model}
-use Rattle.model.specs.Model.{Lawful}
 use Rattle.region.specs.declared.Region.{Region}
 use Rattle.region.specs.View.{view}
-use Rattle.graph.specs.declared.Next.{Next}
-use Rattle.graph.specs.declared.Next.TheVariants.{To, Nothing}
-use Rattle.graph.specs.States.{Listed, states}
-use Rattle.replay.specs.declared.Reached.{Reached}
-use Rattle.replay.specs.declared.Reached.TheVariants.{At, Refused}
-use Rattle.replay.specs.Trail.{flow_to, state_beside, face_step_to, touch_step_to}
-
--- what a step is replayed from: a model with its regions listed, and a state
-pub record From (m : Model) (table : List ℕ) (s : ℕ) : Type 0 where
-  pub lawful : Lawful m
-  pub listed : Listed m table
-  pub below : s < states m
+use Rattle.replay.specs.Trail.{Reached, At, Refused, flow_to, state_beside, face_step_to, touch_step_to}
 
 -- ---- replaying
+
+-- what the code reaches, its refusal by number
+abbrev pub numbered_reached : Result (ℕ × ℕ) Refusal → Reached
+numbered_reached (Ok v) = At v.0 v.1
+numbered_reached (Err r) = Refused (code_of r)
 
 -- the refusal, 0 where a state was reached
 abbrev pub reached_refusal : Reached → ℕ
 reached_refusal (At q p) = 0
 reached_refusal (Refused r) = r
 
-abbrev pub go_to : Next → ℕ → Reached
-go_to (To q) at = At q at
-go_to Nothing at = Refused 13
+abbrev pub go_to : Option ℕ → ℕ → Reached
+go_to (Some q) at = At q at
+go_to None at = Refused 13
 
 -- whole parts and ranks that some region has
 abbrev pub is_small : Region → Bool
@@ -41,8 +36,8 @@ is_small g =
     && (leb g.r1 max_clocks && (leb g.r2 max_clocks && leb g.r3 max_clocks))
 
 -- the state of a region at the location of p, allowed or not
-unfoldable pub look_up : Model → ℕ → List Clock → Next
-look_up m p xs = cond (lawful m.clocks m.ceiling xs) (To (state_beside m p xs)) Nothing
+unfoldable pub look_up : Model → ℕ → List Clock → Option ℕ
+look_up m p xs = cond (lawful m.clocks m.ceiling xs) (Some (state_beside m p xs)) None
 
 unfoldable pub step_to : Model → List ℕ → Step → ℕ → ℕ → Reached
 step_to m bs Time p at = flow_to m 0 p at

@@ -10,8 +10,11 @@ use Rattle.evidence_number.specs.Numbers.{on_numbers}
 use Rattle.trail_numbers.specs.Numbers.{label_at, numbers_at}
 use Rattle.model.specs.declared.Model.{Model}
 use Rattle.graph.specs.Plan.{automaton_of, system_of_model, labelled_of_model}
-use Rattle.replay.specs.declared.Reached.{Reached}
-use Rattle.replay.specs.declared.Reached.TheVariants.{At, Refused}
+
+-- a state that was reached and the offset after what was read, or the refusal
+pub data Reached : Type 0 where
+  At : ℕ → ℕ → Reached
+  Refused : ℕ → Reached
 
 abbrev pub on_reached : {A : Type 0} → Reached → (ℕ → ℕ → A) → (ℕ → A) → A
 on_reached (At q at) go stop = go q at

@@ -5,6 +5,7 @@
 ghost use Rattle.printing.specs.Text.{Writes};
 ghost use Rattle.room.specs.Needs.{needs_text};
 
+use limits::refusal::Refusal;
 use op_room::Space;
 use printing::{line, refuse};
 use reading::read_full;
@@ -14,17 +15,17 @@ use std::io::Write;
 // The longest plan takes 762 bytes, so any longer input is refused within these, and no other refusal is lost.
 const INPUT: usize = 4096;
 
-fn show<W: Write>(to: &mut W, found: Space) -> io::Result<()>
+fn show<W: Write>(to: &mut W, found: Result<Space, Refusal>) -> io::Result<()>
     ensures { Writes (W.contents to.old) (W.contents to.new) result (needs_text found) }
 {
     match found {
-        Space::Needs(states, scratch, sheet, steps) => {
-            line(to, b"states ", states as u64)?;
-            line(to, b"scratch ", scratch as u64)?;
-            line(to, b"sheet ", sheet as u64)?;
-            line(to, b"steps ", steps as u64)
+        Ok(needs) => {
+            line(to, b"states ", needs.states as u64)?;
+            line(to, b"scratch ", needs.scratch as u64)?;
+            line(to, b"sheet ", needs.sheet as u64)?;
+            line(to, b"steps ", needs.steps as u64)
         }
-        Space::Refused(number) => refuse(to, number),
+        Err(r) => refuse(to, r.code()),
     }
 }
 

@@ -1,13 +1,14 @@
 -- Counts below a bound: of tests that agree, of tests that differ at one place, of a test that nothing passes.
-use mathlib.Core.Path.{◌≡◌, refl, sym, ap}
-use mathlib.Core.Bool.{Bool, true, false}
+use mathlib.Core.Path.{◌≡◌, refl, sym, ap, ◌∙◌}
+use mathlib.Core.Bool.{Bool, true, false, cond}
 use Prim.Native.Nat.{ℕ, zero, suc, ◌+◌, ◌<◌}
 use native.Mathlib.Omega.{arith}
-use native.Mathlib.Numerals.{add-one}
 use lib.Dec.{ltb}
-use borrow.Author.Tests.{lt-ltb, le-ltb}
+use lib.ListN.{length, get_or}
+use mathlib.Core.List.{List, [], ◌∷◌}
+use Rattle.std.specs.Prelude.{count_by}
+use Rattle.std.proofs.lemmas.List.Sums.{sum_by_from}
 use Rattle.theory.specs.Below.{bit, count}
-use Rattle.theory.proofs.Below.{count-suc}
 
 pub count_same : (n : ℕ) (f g : ℕ → Bool) → ((i : ℕ) → i < n → f i ≡ g i) → count n f ≡ count n g
 unfolding count
@@ -31,9 +32,14 @@ unfolding count
 count_none zero = refl
 count_none (suc n) = omega (arith, count_none n)
 
--- one place more, where numbers above 0 are counted
-pub count_in : (f : ℕ → ℕ) (i : ℕ) → 0 < f i → count (i + 1) (λ p. ltb 0 (f p)) ≡ count i (λ p. ltb 0 (f p)) + 1
-count_in f i h = rw (add-one i) (omega (arith, count-suc i (λ p. ltb 0 (f p)), ap bit (lt-ltb 0 (f i) h)))
+bit_cond : (b : Bool) → cond b 1 0 ≡ bit b
+bit_cond true = refl
+bit_cond false = refl
 
-pub count_off : (f : ℕ → ℕ) (i : ℕ) → f i ≡ 0 → count (i + 1) (λ p. ltb 0 (f p)) ≡ count i (λ p. ltb 0 (f p))
-count_off f i h = rw (add-one i) (omega (arith, count-suc i (λ p. ltb 0 (f p)), ap bit (le-ltb 0 (f i) (omega arith))))
+-- the same by a list's numbers
+pub count_listed : (l : List ℕ) → count_by (ltb 0) l ≡ count (length l) (λ p. ltb 0 (get_or l p 0))
+unfolding count
+count_listed [] = refl
+count_listed (x ∷ l) =
+    let e = sum_by_from (λ y. cond (ltb 0 y) 1 0) (0 + cond (ltb 0 x) 1 0) l in
+    e ∙ omega (arith, bit_cond (ltb 0 x), count_listed l)

@@ -6,8 +6,8 @@ use mathlib.Core.List.{List}
 use Prim.Native.Nat.{ℕ, ◌+◌, ◌%◌, ◌≤◌, ◌<◌}
 use native.Mathlib.Omega.{arith}
 use native.Mathlib.Decide.{dec_lt, ℕ_discrete}
-use lib.ListN.{length, get_or, set, length-set, get_or-eq_default}
-use lib.Seq.{get_or-set_same, get_or-set_other, ext_get_or}
+use lib.ListN.{length, get_or, set, length-set}
+use lib.Seq.{get_or-set_same, get_or-set_other}
 use Rattle.limits.specs.Limits.{level_flag}
 use Rattle.theory.specs.Walk.{dist}
 use Rattle.theory.specs.Levels.{distance_to}
@@ -15,7 +15,8 @@ use Rattle.theory.specs.Guide.{good}
 use Rattle.theory.proofs.Below.{either}
 use Rattle.theory.proofs.Guide.{good-le, good_last, good_next, good_back}
 use Rattle.search.specs.Queue.{ByLevel}
-use Rattle.search.specs.Least.{LeastOf, At}
+use Rattle.std.specs.Prelude.{Option, None, Some, is_some, unwrap_or}
+use Rattle.search.specs.Least.{LeastOf, LeastFound, At}
 use Rattle.search.specs.Flags.{Ahead, at_last, before_last, Tried, fails, passes, Aims, Raised, FlagsOf}
 use Rattle.search.proofs.Queue.{fits_le}
 
@@ -35,15 +36,6 @@ pub level_small : {level queue : List ℕ} {n : ℕ} → ByLevel level queue n �
 level_small O p b = omega (arith, O.bounded p b, fits_le O.fits, O.fits.limit)
 
 module _ {Lead : ℕ → ℕ → Type 0} {Goal : ℕ → Type 0} {start x : ℕ} {level₀ queue : List ℕ} {n : ℕ} (O : ByLevel level₀ queue n) where
-  pub flagging_first : Flagging Lead Goal start x level₀ queue n n level₀
-  flagging_first = record {
-    raised = record { long = refl; each = λ p. inl refl };
-    before = omega arith;
-    plain = λ j l. refl;
-    done = λ r goal A j l k. absurd (omega arith);
-    none = λ r goal A p b g. refl;
-  }
-
   -- ---- what the levels say of a relation
 
   module _ (r : ℕ → ℕ → Bool) (goal : ℕ → Bool) (A : Aims Lead Goal start x level₀ r goal) where
@@ -211,38 +203,21 @@ module _ {Lead : ℕ → ℕ → Type 0} {Goal : ℕ → Type 0} {start x : ℕ}
 -- ---- one state, by the ways out
 
 module _ {Lead : ℕ → ℕ → Type 0} {Goal : ℕ → Type 0} {x : ℕ} {level : List ℕ} {p y : ℕ} (e : y ≡ get_or level p 0) where
-  pub tried_over : x < y → Tried (Ahead Lead Goal x level) p level level
-  tried_over l = fails refl not
-    where
-      not : Ahead Lead Goal x level p → ⊥
-      not (at_last h g) = omega arith
-      not (before_last h s t v) = omega arith
-
   module _ (l : y < x) {n q : ℕ} (H : LeastOf (At level (y + 1 + level_flag) (Lead p)) n q) where
     pub tried_some : q < n → Tried (Ahead Lead Goal x level) p level (set level p (y + level_flag))
     tried_some b =
         ⊎_elim (λ z. absurd (omega arith))
         (λ t. passes (rw e) (before_last (omega arith) q t.is (omega (arith, t.has)))) H.some
 
-    pub tried_none : length level ≤ q → Tried (Ahead Lead Goal x level) p level level
-    tried_none b = fails refl not
-      where
-        not : Ahead Lead Goal x level p → ⊥
-        not (at_last h g) = omega arith
-        not (before_last h s t v) =
-            let o = H.least s (record { has = rw e v; is = t }) in
-            omega (arith, get_or-eq_default level 0 (let k : length level ≤ s = omega arith in k))
+-- whether there is a least state
+module _ {S : ℕ} {T : ℕ → Type 0} {best : Option ℕ} where
+  pub found_some : (o : Option ℕ) → LeastFound S T best o → is_some o ≡ true → unwrap_or o S < S
+  found_some None L e = absurd (true≢false (sym e))
+  found_some (Some q) L e = L.below
 
-  module _ (l : y ≡ x) where
-    pub tried_goal : Goal p → Tried (Ahead Lead Goal x level) p level (set level p (y + level_flag))
-    tried_goal g = passes (rw e) (at_last (omega arith) g)
-
-    pub tried_plain : (Goal p → ⊥) → Tried (Ahead Lead Goal x level) p level level
-    tried_plain n = fails refl not
-      where
-        not : Ahead Lead Goal x level p → ⊥
-        not (at_last h g) = n g
-        not (before_last h s t v) = omega arith
+  pub found_none : (o : Option ℕ) → LeastFound S T best o → is_some o ≡ false → unwrap_or o S ≡ S
+  found_none None L e = refl
+  found_none (Some q) L e = absurd (true≢false e)
 
 -- ---- the flags off again
 
@@ -251,25 +226,3 @@ pub record Cleared (level level' : List ℕ) (i : ℕ) : Type 0 where
   pub long : length level' ≡ length level
   pub done : (p : ℕ) → p < i → get_or level' p 0 ≡ get_or level p 0 % level_flag
   pub rest : (p : ℕ) → i ≤ p → get_or level' p 0 ≡ get_or level p 0
-
-pub cleared_first : (level : List ℕ) → Cleared level level 0
-cleared_first level = record { long = refl; done = λ p l. absurd (omega arith); rest = λ p l. refl }
-
-pub cleared_next : {level level' : List ℕ} {i : ℕ} → Cleared level level' i → i < length level'
-    → Cleared level (set level' i (get_or level' i 0 % level_flag)) (i + 1)
-cleared_next {level} {level'} {i} C b = record {
-  long = length-set level' i (get_or level' i 0 % level_flag) ∙ C.long;
-  done = λ p l. by p l (ℕ_discrete p i);
-  rest = λ p l. get_or-set_other level' i p (get_or level' i 0 % level_flag) 0 (λ e. omega arith) ∙ C.rest p (omega arith);
-}
-  where
-    by : (p : ℕ) → p < i + 1 → Dec (p ≡ i) → get_or (set level' i (get_or level' i 0 % level_flag)) p 0 ≡ get_or level p 0 % level_flag
-    by p l (yes e) = rw e (get_or-set_same level' i (get_or level' i 0 % level_flag) 0 b ∙ ap (λ (k : ℕ). k % level_flag) (C.rest i (omega arith)))
-    by p l (no e) = get_or-set_other level' i p (get_or level' i 0 % level_flag) 0 e ∙ C.done p (omega arith)
-
-pub cleared_end : {level level' : List ℕ} {i : ℕ} → Cleared level level' i → length level' ≤ i
-    → (old : List ℕ) → ((p : ℕ) → p < length old → get_or old p 0 < level_flag) → Raised old level → level' ≡ old
-cleared_end {level} {level'} {i} C l old small D =
-    ext_get_or 0 level' old (C.long ∙ D.long)
-    (λ p b. let h = small p (omega (arith, C.long, D.long)) in
-    C.done p (omega arith) ∙ ⊎_elim (λ e. omega arith) (λ e. omega arith) (D.each p))

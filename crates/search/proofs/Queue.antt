@@ -120,9 +120,6 @@ module _ {x : ℕ} {T : ℕ → Type 0} {level level' queue queue' : List ℕ} {
   pub takes_reached : (q : ℕ) → 0 < get_or level q 0 → 0 < get_or level' q 0
   takes_reached q h = rw (takes_kept q h) h
 
-  pub takes_queue : Queued level queue n → length queue' ≡ length queue
-  takes_queue F = A.fits.same ∙ (A.long ∙ sym F.same)
-
   pub takes_widen : {U : ℕ → Type 0} → ((q : ℕ) → T q → U q) → Takes x U level level' queue queue' n n'
   takes_widen g = record {
     fits = A.fits;

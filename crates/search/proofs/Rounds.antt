@@ -1,5 +1,5 @@
 -- The rounds: the first one, the next, and what is found when no state is left.
-use mathlib.Core.Path.{◌≡◌, ap, ◌∙◌}
+use mathlib.Core.Path.{◌≡◌, refl, ap, ◌∙◌}
 use mathlib.Core.Bool.{Bool, true, false}
 use mathlib.Core.Logic.{◌⊎◌, inl, inr, ⊎_elim}
 use mathlib.Core.List.{List}
@@ -7,8 +7,7 @@ use Prim.Native.Nat.{ℕ, ◌+◌, ◌-◌, ◌≤◌, ◌<◌}
 use native.Mathlib.Omega.{arith}
 use native.Mathlib.Nat.{le_antisymm}
 use native.Mathlib.Decide.{dec_lt}
-use lib.ListN.{length, get_or, set}
-use lib.Seq.{get_or-set_same, get_or-set_other}
+use lib.ListN.{length, get_or}
 use lib.Dec.{ltb}
 use borrow.Author.Tests.{le-ltb}
 use Rattle.limits.specs.Limits.{max_states}
@@ -19,13 +18,12 @@ use Rattle.theory.proofs.Levels.{mark_in, mark_out, upto_first, upto_at, upto_ne
 use Rattle.search.specs.Queue.{Queued, ByLevel, TakesAll, LeadsFrom}
 use Rattle.search.specs.Rounds.{Agrees, Searched}
 use Rattle.search.proofs.Count.{count_same, count_none}
-use Rattle.search.proofs.Queue.{takes_one, takes_kept}
+use Rattle.search.proofs.Queue.{takes_kept}
 
 -- ---- the first round
 
-module _ (level queue : List ℕ) (start : ℕ) (zero : (p : ℕ) → get_or level p 0 ≡ 0) (limit : length level ≤ max_states)
-    (same : length queue ≡ length level) (b : start < length level) where
-  fits_none : Queued level queue 0
+module _ (level queue : List ℕ) (zero : (p : ℕ) → get_or level p 0 ≡ 0) (limit : length level ≤ max_states) (same : length queue ≡ length level) where
+  pub fits_none : Queued level queue 0
   fits_none = record {
     limit = limit;
     same = same;
@@ -37,30 +35,26 @@ module _ (level queue : List ℕ) (start : ℕ) (zero : (p : ℕ) → get_or lev
         ∙ count_none (length level);
   }
 
-  pub start_taken : TakesAll 0 (λ p. p ≡ start) level (set level start 1) queue (set queue 0 start) 0 1
-  start_taken = takes_one fits_none 0 start b (zero start)
+-- the start is taken in: the first place of the queue, alone at level 1
+module _ (Lead : ℕ → ℕ → Type 0) {start : ℕ} {level level' queue queue' : List ℕ} {n : ℕ} (zero : (p : ℕ) → get_or level p 0 ≡ 0)
+    (A : TakesAll 0 (λ p. p ≡ start) level level' queue queue' 0 n) where
+  pub start_level : get_or level' start 0 ≡ 1
+  start_level = let h = A.covers start refl in ⊎_elim (λ e. absurd (omega (arith, zero start))) (λ t. t.1) (A.takes.each start)
 
-module _ (Lead : ℕ → ℕ → Type 0) (level queue : List ℕ) (start : ℕ) (zero : (p : ℕ) → get_or level p 0 ≡ 0) (limit : length level ≤ max_states)
-    (same : length queue ≡ length level) (b : start < length level) where
-  only : TakesAll 0 (λ p. p ≡ start) level (set level start 1) queue (set queue 0 start) 0 1
-  only = start_taken level queue start zero limit same b
+  others : (p : ℕ) → (p ≡ start → ⊥) → get_or level' p 0 ≡ 0
+  others p c = ⊎_elim (λ e. e ∙ zero p) (λ t. absurd (c t.2)) (A.takes.each p)
 
-  one : (i : ℕ) → i < 1 → get_or (set level start 1) (get_or (set queue 0 start) i 0) 0 ≡ 1
-  one i l = only.takes.fresh i (omega arith) l
-
-  pub searched_first : Searched Lead start 1 0 1 (set level start 1) (set queue 0 start)
-  searched_first = record {
-    fits = only.takes.fits;
-    sorted = λ i j l k. omega (arith, one i (omega arith), one j k);
+  pub searched_first : start < length level → Searched Lead start 1 0 n level' queue'
+  searched_first b = record {
+    fits = A.takes.fits;
+    sorted = λ i j l k. omega (arith, A.takes.fresh i (omega arith) (omega arith), A.takes.fresh j (omega arith) k);
     some = omega arith;
     early = omega arith;
     ends = omega arith;
     low = λ i l. absurd (omega arith);
-    now = λ i k l. one i l;
+    now = A.takes.fresh;
     past = λ i e. absurd (omega arith);
-    upto = λ r A.
-        upto_first (length (set level start 1)) r A.inside start A.begins (λ p. get_or (set level start 1) p 0)
-        (get_or-set_same level start 1 0 b) (λ p l n. get_or-set_other level start p 1 0 n ∙ zero p);
+    upto = λ r G. upto_first (length level') r G.inside start G.begins (λ p. get_or level' p 0) start_level (λ p l c. others p c);
   }
 
 -- ---- a level

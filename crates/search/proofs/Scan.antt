@@ -5,7 +5,6 @@ use mathlib.Core.List.{List}
 use Prim.Native.Nat.{ℕ, ◌+◌, ◌≤◌, ◌<◌}
 use native.Mathlib.Omega.{arith}
 use native.Mathlib.Decide.{ℕ_discrete}
-use lib.ListN.{get_or}
 use Rattle.search.specs.Queue.{Between}
 use Rattle.search.specs.Least.{LeastOf, At}
 
@@ -63,14 +62,3 @@ module _ {level : List ℕ} {y lo i hi : ℕ} {P : ℕ → ℕ → Type 0} {a b 
 pub between_same : {level : List ℕ} {y lo hi lo' hi' : ℕ} {P : ℕ → ℕ → Type 0} {a b : ℕ} → LeastOf (At level y (Between lo hi P)) a b
     → lo ≡ lo' → hi ≡ hi' → LeastOf (At level y (Between lo' hi' P)) a b
 between_same A d e = rw (d, e) at A
-
--- one state
-module _ (level : List ℕ) (y q best : ℕ) where
-  pub lower_above : best ≤ q → LeastOf (At level y (λ z. z ≡ q)) best best
-  lower_above l = least_kept (λ z t. omega (arith, t.is))
-
-  pub lower_take : q ≤ best → get_or level q 0 ≡ y → LeastOf (At level y (λ z. z ≡ q)) best q
-  lower_take l e = record { less = l; least = λ z t. omega (arith, t.is); some = inr (record { has = e; is = refl }) }
-
-  pub lower_not : (get_or level q 0 ≡ y → ⊥) → LeastOf (At level y (λ z. z ≡ q)) best best
-  lower_not n = least_kept (λ z t. absurd (n (rw t.is at t.has)))

@@ -2,6 +2,8 @@
 
 -- The states reached, in the order in which they are found.
 pub mod Queue
+-- What a method leaves in a queue.
+pub mod Held
 -- The least of some states with a level.
 pub mod Least
 -- The least level of some states.

@@ -1,8 +1,14 @@
--- One step of a scan for the least level of a goal.
-use Rattle.std.specs.Prelude.{◌≡◌, Bool, true, ◌⊎◌, ℕ, ◌+◌, ◌≤◌, ◌<◌}
+-- The least distance of the states of a goal, as a scan finds it. A level is one more than the distance of a state that is reached, and 0 for the others.
+use Rattle.std.specs.Prelude.{◌≡◌, Bool, true, Option, None, Some, ℕ, zero, suc, ◌+◌, ◌≤◌, ◌<◌, min}
 
--- r: the lower of d and the distance of p, if p is reached and a goal; a level is one more than a distance
-pub record Lower (goal : ℕ → Bool) (f : ℕ → ℕ) (p d r : ℕ) : Type 0 where
-  pub less : r ≤ d
-  pub least : goal p ≡ true → 0 < f p → r + 1 ≤ f p
-  pub some : (r ≡ d) ⊎ ((goal p ≡ true) × (f p ≡ r + 1))
+-- the lower of `best` and the distance of a state with this level, if it is reached
+abbrev pub lower_distance : Option ℕ → ℕ → Option ℕ
+lower_distance best zero = best
+lower_distance None (suc d) = Some d
+lower_distance (Some b) (suc d) = Some (min b d)
+
+-- the least distance of the goals before place i that are reached, if there are any
+pub data LeastDistance (goal : ℕ → Bool) (f : ℕ → ℕ) (i : ℕ) : Option ℕ → Type 0 where
+  none_reached : ((p : ℕ) → p < i → goal p ≡ true → f p ≡ 0) → LeastDistance goal f i None
+  reached_at : {d : ℕ} (q : ℕ) → q < i → goal q ≡ true → f q ≡ d + 1 → ((p : ℕ) → p < i → goal p ≡ true → 0 < f p → d + 1 ≤ f p)
+      → LeastDistance goal f i (Some d)

@@ -1,6 +1,6 @@
 -- The states reached so far, in the order in which they were found, and what a part of a round adds to them.
 -- `level` holds one more than the distance of a state that is reached, and 0 for the others.
-use Rattle.std.specs.Prelude.{◌≡◌, ◌⊎◌, List, ℕ, ◌+◌, ◌≤◌, ◌<◌, length, get_or, ltb}
+use Rattle.std.specs.Prelude.{◌≡◌, ◌⊎◌, List, ℕ, ◌+◌, ◌≤◌, ◌<◌, length, get_or, slice_range, ltb}
 use Rattle.limits.specs.Limits.{max_states}
 use Rattle.theory.specs.Below.{count}
 
@@ -54,6 +54,10 @@ pub record Between (from to : ℕ) (P : ℕ → ℕ → Type 0) (q : ℕ) : Type
 -- `base` plus a number that stands in a list at such a place
 abbrev pub InList : List ℕ → ℕ → ℕ → ℕ → ℕ → Type 0
 InList list base from to = Between from to (λ i q. base + get_or list i 0 ≡ q)
+
+-- the row of node p in adjacency lists
+abbrev pub row_of : List ℕ → List ℕ → ℕ → List ℕ
+row_of first targets p = slice_range targets (get_or first p 0) (get_or first (p + 1) 0)
 
 -- the states at such places of the queue lead there
 abbrev pub LeadsFrom : (ℕ → ℕ → Type 0) → List ℕ → ℕ → ℕ → ℕ → Type 0

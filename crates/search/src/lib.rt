@@ -9,36 +9,32 @@ ghost use Rattle.search.specs.Flags.{Raised};
 
 use limits::{LEVEL_FLAG, Word};
 
+mod distance;
+mod guide;
 mod least;
 mod reach;
 mod row;
+mod spread;
 
-pub use least::{least_listed, least_row, lower};
-pub use reach::{take_in, take_listed, take_row};
-pub use row::leads_to;
+pub use distance::lower_distance;
+pub use guide::{Guide, flag_all, trace};
+pub use least::{least_listed, lower};
+pub use reach::Reached;
+pub use row::Steps;
+pub use spread::{Spread, round};
 
 // How many states are reached.
 pub fn count_reached(level: &[Word]) -> usize
     ensures { result ≡ reached_count level.now }
 {
-    let mut n = 0;
-    let mut i = 0;
-    while i < level.len() {
-        if 0 < level[i] {
-            n += 1;
-        }
-        i += 1;
-    }
-    n
+    level.iter().filter(|x| 0 < **x).count()
 }
 
 // All flags off.
 pub fn clear_flags(level: &mut [Word])
     ensures { (old : List ℕ) → ((p : ℕ) → p < length old → get_or old p 0 < level_flag) → Raised old level.old → level.new ≡ old }
 {
-    let mut p = 0;
-    while p < level.len() {
+    for p in 0..level.len() {
         level[p] %= LEVEL_FLAG as Word;
-        p += 1;
     }
 }

@@ -2,67 +2,43 @@
 
 ghost use Rattle.std.specs.Prelude.{◌≡◌, ℕ, ◌+◌, ◌≤◌, ◌<◌, length, get_or};
 ghost use Rattle.limits.specs.Limits.{max_states};
-ghost use Rattle.theory.specs.Adjacency.{Adjacent, Rows};
-ghost use Rattle.search.specs.Queue.{Queued, TakesAll, InList};
+ghost use Rattle.search.specs.Queue.{InList};
 
 use limits::Word;
-use limits::cast::{from_long, from_word};
 
-// If q is not reached, it gets level x + 1 and stands at the queue's end, place n; the queue's new end.
-pub fn take_in(level: &mut [Word], queue: &mut [Word], x: Word, q: usize, n: usize) -> usize
-    requires { (x ≤ max_states) × (q < length level.old) × Queued level.old queue.old n }
-    ensures { TakesAll x (λ y. y ≡ q) level.old level.new queue.old queue.new n result }
-{
-    if level[q] == 0 {
-        level[q] = x + 1;
-        queue[n] = q as Word;
-        return n + 1;
-    }
-    n
+// The states reached so far: a level for each, and their numbers in the order in which they were found.
+#[derive(Drop)]
+pub struct Reached<'a> {
+    pub level: &'a mut [Word],
+    pub queue: &'a mut [Word],
+    pub end: usize,
 }
 
-// The same for `base` plus each number that stands in `list` from place `from` up to `to`.
-pub fn take_listed(
-    list: &[Word],
-    from: usize,
-    to: usize,
-    base: usize,
-    level: &mut [Word],
-    queue: &mut [Word],
-    x: Word,
-    n: usize,
-) -> usize
-    requires { (x ≤ max_states) × (from ≤ to) × (to ≤ length list.now)
-        × ((i : ℕ) → i < to → base + get_or list.now i 0 < length level.old) × Queued level.old queue.old n }
-    ensures { TakesAll x (InList list.now base from to)
-        level.old level.new queue.old queue.new n result }
-{
-    let mut end = n;
-    let mut i = from;
-    while i < to {
-        let q = base + from_word(list[i]);
-        end = take_in(level, queue, x, q, end);
-        i += 1;
-    }
-    end
-}
+impl<'a> Reached<'a> {
+    ghost use Rattle.search.specs.Held.{SameQueue, InOrder, TakesIn};
 
-// The same for the successors of p.
-pub fn take_row(
-    first: &[u32],
-    targets: &[Word],
-    level: &mut [Word],
-    queue: &mut [Word],
-    x: Word,
-    p: usize,
-    n: usize,
-) -> usize
-    requires { (x ≤ max_states) × (p < length level.old) × Rows first.now targets.now (length level.old)
-        × Queued level.old queue.old n }
-    ensures { TakesAll x (Adjacent first.now targets.now p)
-        level.old level.new queue.old queue.new n result }
-{
-    let from = from_long(first[p]);
-    let to = from_long(first[p + 1]);
-    take_listed(targets, from, to, 0, level, queue, x, n)
+    // If q is not reached, it gets level x + 1 and stands at the queue's end.
+    pub fn take(&mut self, x: Word, q: usize)
+        requires { (x ≤ max_states) × (q < length self.old.level.now) × InOrder self.old }
+        ensures takes { TakesIn x (λ y. y ≡ q) self.old self.new }
+        ensures same { SameQueue self.old self.new }
+    {
+        if self.level[q] == 0 {
+            self.level[q] = x + 1;
+            self.queue[self.end] = q as Word;
+            self.end += 1;
+        }
+    }
+
+    // The same for `base` plus each number of a row.
+    pub fn take_all(&mut self, x: Word, base: usize, row: &[Word])
+        requires queue { (x ≤ max_states) × InOrder self.old }
+        requires states { (i : ℕ) → i < length row.now → base + get_or row.now i 0 < length self.old.level.now }
+        ensures takes { TakesIn x (InList row.now base 0 (length row.now)) self.old self.new }
+        ensures same { SameQueue self.old self.new }
+    {
+        for &t in row {
+            self.take(x, base + usize::from(t));
+        }
+    }
 }

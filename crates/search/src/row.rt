@@ -1,23 +1,36 @@
-// A row of successors.
+// Adjacency lists, and their rows.
 
 ghost use Rattle.std.specs.Prelude.{◌≡◌, true, ◌↔◌, ℕ, ◌<◌};
 ghost use Rattle.theory.specs.Adjacency.{Adjacent, Rows};
+ghost use Rattle.search.specs.Queue.{row_of};
 
 use limits::Word;
-use limits::cast::{from_long, from_word};
 
-// Whether q is a successor of p.
-pub fn leads_to(first: &[u32], targets: &[Word], p: usize, q: usize) -> bool
-    requires { (n : ℕ) × (p < n) × Rows first.now targets.now n }
-    ensures { (result ≡ true) ↔ Adjacent first.now targets.now p q }
-{
-    let mut i = from_long(first[p]);
-    let to = from_long(first[p + 1]);
-    while i < to {
-        if from_word(targets[i]) == q {
-            return true;
-        }
-        i += 1;
+// What node p leads to stands in `targets` from place first[p] up to place first[p + 1].
+#[derive(Clone, Copy)]
+pub struct Steps<'a> {
+    pub first: &'a [u32],
+    pub targets: &'a [Word],
+    pub nodes: usize,
+    pub ghost rows: { Rows first.now targets.now nodes },
+}
+
+impl<'a> Steps<'a> {
+    // The successors of p.
+    pub fn row(self, p: usize) -> &'a [Word]
+        requires { p < self.nodes }
+        ensures { result.now ≡ row_of self.entry.first.now self.entry.targets.now p }
+    {
+        let from = self.first[p] as usize;
+        let to = self.first[p + 1] as usize;
+        &self.targets[from..to]
     }
-    false
+
+    // Whether q is a successor of p.
+    pub fn leads_to(self, p: usize, q: usize) -> bool
+        requires { p < self.nodes }
+        ensures { (result ≡ true) ↔ Adjacent self.entry.first.now self.entry.targets.now p q }
+    {
+        self.row(p).iter().any(|&t| usize::from(t) == q)
+    }
 }

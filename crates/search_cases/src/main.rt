@@ -8,9 +8,11 @@ mod shape;
 
 ghost use Rattle.std.specs.Prelude.{◌≡◌, ◌+◌, ◌≤◌, ◌<◌, min, length};
 ghost use Rattle.component.specs.Marks.{GraphLists};
+ghost use Rattle.printing.specs.Text.{Grows};
 
 use limits::Word;
 use lines::{after, field, letter, line_end};
+use printing::{put, say};
 use reading::read_full;
 use shape::shaped;
 use std::io;
@@ -23,118 +25,103 @@ const NODES: usize = 8;
 
 const STEPS: usize = 16;
 
-fn say<W: Write>(to: &mut W, text: &[u8]) -> io::Result<()> {
-    to.write_all(text)
-}
-
-fn show<W: Write>(to: &mut W, number: usize) -> io::Result<()> {
-    say(to, b" ")?;
-    write!(to, "{number}")
-}
-
-fn show_word<W: Write>(to: &mut W, number: Word) -> io::Result<()> {
-    show(to, number as usize)
-}
-
 // The first n numbers.
-fn show_words<W: Write>(to: &mut W, numbers: &[Word; NODES], n: usize) -> io::Result<()> {
-    let mut i = 0;
-    while i < NODES {
-        if n <= i {
-            return Ok(());
-        }
-        show_word(to, numbers[i])?;
-        i += 1;
+fn show_words<W: Write>(to: &mut W, numbers: &[Word; NODES], n: usize) -> io::Result<()>
+    ensures grows { Grows (W.contents to.old) (W.contents to.new) }
+{
+    for &number in numbers.iter().take(n) {
+        put(to, b" ", u64::from(number))?;
     }
     Ok(())
 }
 
 // ---- The searches.
 
-fn marks<W: Write>(
-    to: &mut W,
-    first: &[u32],
-    targets: &[Word],
-    n: usize,
+// A graph as the searches require it, and what all lent slices hold at first.
+#[derive(Clone, Copy)]
+struct Case<'a> {
+    first: &'a [u32],
+    targets: &'a [Word],
+    nodes: usize,
     dirt: Word,
-) -> io::Result<()>
-    requires { GraphLists first.now targets.now n × (n ≤ 8) }
-{
-    let mut mark = [dirt; NODES];
-    let mut stack = [dirt; NODES];
-    let mut path = [dirt; NODES];
-    let mut start = [dirt; NODES];
-    component::components(
-        first,
-        targets,
-        &mut mark[..n],
-        &mut stack[..n],
-        &mut path[..n],
-        &mut start[..n],
-        n,
-    );
-    show_words(to, &mark, n)
+    ghost lists: { GraphLists first.now targets.now nodes },
+    ghost small: { nodes ≤ 8 },
 }
 
-fn walk<W: Write>(
-    to: &mut W,
-    first: &[u32],
-    targets: &[Word],
-    n: usize,
-    q: usize,
-    dirt: Word,
-) -> io::Result<()>
-    requires { GraphLists first.now targets.now n × (n ≤ 8) × (q < n) }
-{
-    let mut level = [dirt; NODES];
-    let mut queue = [dirt; NODES];
-    let mut path = [dirt; NODES];
-    let steps = closed_walk::closed_walk(
-        first,
-        targets,
-        q,
-        &mut level[..n],
-        &mut queue[..n],
-        &mut path[..n],
-    );
-    show(to, steps)?;
-    show_words(to, &path, steps)
-}
-
-// From each node.
-fn walks<W: Write>(
-    to: &mut W,
-    first: &[u32],
-    targets: &[Word],
-    n: usize,
-    dirt: Word,
-) -> io::Result<()>
-    requires { GraphLists first.now targets.now n × (n ≤ 8) }
-{
-    let mut q = 0;
-    while q < n {
-        say(to, b";")?;
-        walk(to, first, targets, n, q, dirt)?;
-        q += 1;
+impl<'a> Case<'a> {
+    fn marks<W: Write>(&self, to: &mut W) -> io::Result<()>
+        ensures grows { Grows (W.contents to.old) (W.contents to.new) }
+    {
+        let n = self.nodes;
+        let mut mark = [self.dirt; NODES];
+        let mut stack = [self.dirt; NODES];
+        let mut path = [self.dirt; NODES];
+        let mut start = [self.dirt; NODES];
+        component::components(
+            self.first,
+            self.targets,
+            &mut mark[..n],
+            &mut stack[..n],
+            &mut path[..n],
+            &mut start[..n],
+            n,
+        );
+        show_words(to, &mark, n)
     }
-    Ok(())
+
+    fn walk<W: Write>(&self, to: &mut W, q: usize) -> io::Result<()>
+        requires { q < self.now.nodes }
+        ensures grows { Grows (W.contents to.old) (W.contents to.new) }
+    {
+        let n = self.nodes;
+        let mut level = [self.dirt; NODES];
+        let mut queue = [self.dirt; NODES];
+        let mut path = [self.dirt; NODES];
+        let steps = closed_walk::closed_walk(
+            self.first,
+            self.targets,
+            q,
+            &mut level[..n],
+            &mut queue[..n],
+            &mut path[..n],
+        );
+        put(to, b" ", steps as u64)?;
+        show_words(to, &path, steps)
+    }
+
+    // From each node.
+    fn walks<W: Write>(&self, to: &mut W) -> io::Result<()>
+        ensures grows { Grows (W.contents to.old) (W.contents to.new) }
+    {
+        for q in 0..self.nodes {
+            say(to, b";")?;
+            self.walk(to, q)?;
+        }
+        Ok(())
+    }
 }
 
 fn search<W: Write>(
     to: &mut W,
     first: &[u32],
     targets: &[Word],
-    n: usize,
+    nodes: usize,
     dirt: Word,
 ) -> io::Result<()>
-    requires { n ≤ 8 }
+    requires { nodes ≤ 8 }
+    ensures grows { Grows (W.contents to.old) (W.contents to.new) }
 {
-    if shaped(first, targets, n) {
-        marks(to, first, targets, n, dirt)?;
-        walks(to, first, targets, n, dirt)
-    } else {
-        say(to, b" no graph")
+    if !shaped(first, targets, nodes) {
+        return say(to, b" no graph");
     }
+    let case = Case {
+        first,
+        targets,
+        nodes,
+        dirt,
+    };
+    case.marks(to)?;
+    case.walks(to)
 }
 
 // ---- Lines.
@@ -143,10 +130,8 @@ fn search<W: Write>(
 fn read_places(line: &[u8], first: &mut [u32])
     requires { length first.old ≤ 16 }
 {
-    let mut i = 0;
-    while i < first.len() {
-        first[i] = field(line, i + 2, 0) as u32;
-        i += 1;
+    for (i, place) in first.iter_mut().enumerate() {
+        *place = u32::from(field(line, i + 2, 0));
     }
 }
 
@@ -154,15 +139,15 @@ fn read_places(line: &[u8], first: &mut [u32])
 fn read_targets(line: &[u8], k: usize, targets: &mut [Word])
     requires { (length targets.old ≤ 16) × (k ≤ 16) }
 {
-    let mut i = 0;
-    while i < targets.len() {
-        targets[i] = field(line, k + i, 0);
-        i += 1;
+    for (i, target) in targets.iter_mut().enumerate() {
+        *target = field(line, k + i, 0);
     }
 }
 
-fn graph<W: Write>(to: &mut W, line: &[u8]) -> io::Result<()> {
-    let n = field(line, 1, 0) as usize;
+fn graph<W: Write>(to: &mut W, line: &[u8]) -> io::Result<()>
+    ensures grows { Grows (W.contents to.old) (W.contents to.new) }
+{
+    let n = usize::from(field(line, 1, 0));
     if NODES < n {
         return say(to, b" no graph");
     }
@@ -174,20 +159,26 @@ fn graph<W: Write>(to: &mut W, line: &[u8]) -> io::Result<()> {
     search(to, &first[..end], &targets, n, field(line, 0, 0))
 }
 
-fn case<W: Write>(to: &mut W, line: &[u8]) -> io::Result<()> {
+fn answer<W: Write>(to: &mut W, line: &[u8]) -> io::Result<()>
+    ensures grows { Grows (W.contents to.old) (W.contents to.new) }
+{
     say(to, line)?;
-    if letter(line, 0) != b'#' {
-        say(to, b":")?;
-        graph(to, line)?;
+    if letter(line, 0) == b'#' {
+        return say(to, b"\n");
     }
+    say(to, b":")?;
+    graph(to, line)?;
     say(to, b"\n")
 }
 
-fn cases<W: Write>(to: &mut W, text: &[u8]) -> io::Result<()> {
+fn cases<W: Write>(to: &mut W, text: &[u8]) -> io::Result<()>
+    ensures grows { Grows (W.contents to.old) (W.contents to.new) }
+{
     let mut p = 0;
+    // A while: p goes from line to line.
     while p < text.len() {
         let end = line_end(text, p);
-        case(to, &text[p..end])?;
+        answer(to, &text[p..end])?;
         p = after(text, end);
     }
     Ok(())

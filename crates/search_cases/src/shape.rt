@@ -8,28 +8,14 @@ fn ascending(first: &[u32], n: usize) -> bool
     requires { length first.now ≡ n + 1 }
     ensures { result ≡ true → (p : ℕ) → p < n → get_or first.now p 0 ≤ get_or first.now (p + 1) 0 }
 {
-    let mut p = 0;
-    while p < n {
-        if first[p + 1] < first[p] {
-            return false;
-        }
-        p += 1;
-    }
-    true
+    first.windows(2).all(|w| w[0] <= w[1])
 }
 
 fn all_below(targets: &[Word], end: usize, n: usize) -> bool
     requires { end ≤ length targets.now }
     ensures { result ≡ true → (i : ℕ) → i < end → get_or targets.now i 0 < n }
 {
-    let mut i = 0;
-    while i < end {
-        if n <= targets[i] as usize {
-            return false;
-        }
-        i += 1;
-    }
-    true
+    targets[..end].iter().all(|&t| usize::from(t) < n)
 }
 
 pub fn shaped(first: &[u32], targets: &[Word], n: usize) -> bool
@@ -48,9 +34,5 @@ pub fn shaped(first: &[u32], targets: &[Word], n: usize) -> bool
     if targets.len() < end {
         return false;
     }
-    if ascending(first, n) {
-        all_below(targets, end, n)
-    } else {
-        false
-    }
+    ascending(first, n) && all_below(targets, end, n)
 }

@@ -8,7 +8,7 @@ ghost use Rattle.shapes.specs.Layout.{faces_at, corners_at, links_at, heads_at, 
 
 use limits::{MAX_FACES, MAX_REGIONS, POINTS, SLOTS, SMALL_REGIONS, Word};
 
-// The length for the largest plan.
+// The length for the largest plan. It and the next are written out, since the value of a constant calls no function.
 pub const MAX_SHAPES: usize = MAX_REGIONS
     + 1
     + MAX_FACES * MAX_REGIONS

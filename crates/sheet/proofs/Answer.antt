@@ -13,8 +13,7 @@ use Rattle.theory.specs.System.{System, Laws}
 use Rattle.theory.specs.Sheet.{Sheet, keeps, in_of, height_of}
 use Rattle.theory.proofs.Below.{either, cond_ind, test↔, leb↔, eqb↔, and↔, or↔}
 use Rattle.theory.proofs.Sheet.{keeps_law}
-use Rattle.number.specs.declared.Number.{Number}
-use Rattle.number.specs.Number.{on_number}
+use Rattle.number.specs.Number.{Number, on_number}
 use Rattle.evidence_number.specs.Evidence.{SpellsEvidence, NumberRefusal, read_evidence}
 use Rattle.evidence_number.proofs.Reading.{Reads, none, more, refused_within, refusal_positive, reads_spelled, spelled_reads}
 use Rattle.model.specs.declared.Model.{Model}
@@ -25,7 +24,7 @@ use Rattle.evidence_number.specs.Numbers.{Numbers, got, refused, on_numbers, aft
 use Rattle.sheet_numbers.specs.Numbers.{number_keeps, numbers_from}
 use Rattle.sheet_rules.specs.Rules.{Blank}
 use Rattle.sheet.specs.Answer.{sheet_numbers, sheet_refusal, sheet_answer}
-use Rattle.number.specs.declared.Number.TheVariants as number
+use Rattle.number.specs.Number as number
 
 -- ---- the reading
 

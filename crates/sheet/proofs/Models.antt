@@ -17,10 +17,8 @@ use Rattle.graph.proofs.Plan.{some_regions}
 use Rattle.successors.specs.Flags.{AllowedFlags}
 use Rattle.successors.specs.Flow.{regions_in}
 use Rattle.successors.proofs.Room.{states_limit}
-use Rattle.sheet_numbers.specs.declared.Extent.{Extent}
-use Rattle.sheet_numbers.specs.declared.Extent.TheVariants.{End, Refused}
-use Rattle.evidence_number.specs.Numbers.{got, refused}
-use Rattle.sheet_numbers.specs.Numbers.{SheetRoom, numbers_from, flagged, numbers_of}
+use Rattle.evidence_number.specs.Numbers.{Numbers}
+use Rattle.sheet_numbers.specs.Numbers.{SheetRoom, numbers_from, flagged}
 use Rattle.sheet_rules.proofs.Keeps.{location_room}
 use Rattle.sheet.specs.Answer.{sheet_numbers, Lent}
 
@@ -50,16 +48,8 @@ module _ {m : Model} {allowed first targets shapes sheet : List ℕ} (E : Lent m
         flags = E.flags.long ∙ sym E.long;
       }
 
-  read_told : (bs : List ℕ) (at : ℕ)
-      → numbers_from (flagged allowed) (2 * length sheet - 1) bs (length sheet) 0 at ≡ sheet_numbers (system_of_model m) bs at
+  -- what was read
+  pub read_told : (bs : List ℕ) (at : ℕ) (n : Numbers)
+      → n ≡ numbers_from (flagged allowed) (2 * length sheet - 1) bs (length sheet) 0 at → sheet_numbers (system_of_model m) bs at ≡ n
   unfolding system_of
-  read_told bs at = rw (E.long, flags_are m allowed E.flags)
-
-  -- what was read into the slice, which now holds l
-  module _ (r : Extent) (l bs : List ℕ) (at : ℕ)
-      (e : numbers_of r l ≡ numbers_from (flagged allowed) (2 * length sheet - 1) bs (length sheet) 0 at) where
-    pub numbers_got : (end : ℕ) → r ≡ End end → sheet_numbers (system_of_model m) bs at ≡ got l end
-    numbers_got end t = sym (e ∙ read_told bs at) ∙ ap (λ (x : Extent). numbers_of x l) t
-
-    pub numbers_stop : (x : ℕ) → r ≡ Refused x → sheet_numbers (system_of_model m) bs at ≡ refused x
-    numbers_stop x t = sym (e ∙ read_told bs at) ∙ ap (λ (y : Extent). numbers_of y l) t
+  read_told bs at n e = sym (rw (E.long, flags_are m allowed E.flags) at e)

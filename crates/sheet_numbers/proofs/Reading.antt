@@ -8,12 +8,12 @@ use native.Mathlib.Numerals.{add-one}
 use lib.ListN.{length, take, set}
 use lib.Seq.{take-suc-set, take_all}
 use lib.Dec.{leb, eqb}
-use borrow.Author.Tests.{leb-true, lt-leb, le-leb}
+use borrow.Author.Tests.{leb-true}
 use Rattle.theory.proofs.Below.{and_left}
 use Rattle.evidence_number.specs.Evidence.{read_evidence}
 use Rattle.evidence_number.specs.Numbers.{Numbers, got, refused, after}
 use Rattle.sheet_numbers.specs.Numbers.{number_keeps, numbers_from, flagged}
-use Rattle.number.specs.declared.Number.TheVariants as number
+use Rattle.number.specs.Number as number
 
 -- ---- one number
 
@@ -21,23 +21,7 @@ pub number_small : (allowed : Bool) (top v : ℕ) → number_keeps allowed top v
 unfolding number_keeps
 number_small allowed top v e = leb-true v top (and_left (leb v top) (allowed || eqb v 0) e)
 
-pub number_large : (allowed : Bool) (top v : ℕ) → top < v → false ≡ number_keeps allowed top v
-unfolding number_keeps
-number_large allowed top v h = rw (lt-leb v top h)
-
-pub number_allowed : (allowed : Bool) (top v : ℕ) → v ≤ top → allowed ≡ true → true ≡ number_keeps allowed top v
-unfolding number_keeps
-number_allowed allowed top v h e = rw (le-leb v top h, e)
-
-pub number_blank : (allowed : Bool) (top v : ℕ) → v ≤ top → allowed ≡ false → eqb v 0 ≡ number_keeps allowed top v
-unfolding number_keeps
-number_blank allowed top v h e = rw (le-leb v top h, e)
-
 -- ---- from one number to the next
-
-pub after_none : (c : Numbers) → after [] c ≡ c
-after_none (got l e) = refl
-after_none (refused r) = refl
 
 after-after : (l m : List ℕ) (c : Numbers) → after l (after m c) ≡ after (l ++ m) c
 after-after l m (got k e) = ap (λ (x : List ℕ). got x e) (sym (append_assoc l m k))
@@ -78,9 +62,10 @@ module _ (allowed : ℕ → Bool) (top : ℕ) (bs : List ℕ) (n i at : ℕ) whe
 
 -- ---- the loop's invariant: the numbers read, which stand in `sheet`, and those left to read are all
 
-pub record Progress (allowed sheet₀ bytes : List ℕ) (at top : ℕ) (sheet : List ℕ) (end i : ℕ) : Type 0 where
-  pub most : i ≤ length sheet₀
+pub record Progress (allowed sheet₀ bytes : List ℕ) (at : ℕ) (sheet : List ℕ) (end i : ℕ) : Type 0 where
   pub long : length sheet ≡ length sheet₀
-  pub bound : top ≡ 2 * length sheet₀ - 1
-  pub numbers : after (take i sheet) (numbers_from (flagged allowed) top bytes (length sheet₀ - i) i end)
+  pub numbers : after (take i sheet) (numbers_from (flagged allowed) (2 * length sheet₀ - 1) bytes (length sheet₀ - i) i end)
       ≡ numbers_from (flagged allowed) (2 * length sheet₀ - 1) bytes (length sheet₀) 0 at
+
+-- the ways through the loop
+pub ruleset numbers_read = (number_small, numbers_refused, numbers_broken, numbers_more, numbers_done)

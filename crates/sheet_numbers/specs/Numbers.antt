@@ -1,11 +1,11 @@
 -- The numbers of a sheet after the first: as bytes spell them, and as they are read, one by one.
-use Rattle.std.specs.Prelude.{◌≡◌, Bool, cond, ◌&&◌, ◌||◌, List, [], ◌∷◌, ℕ, zero, suc, ◌+◌, ◌-◌, ◌*◌, ◌≤◌, ◌<◌, length, get_or, leb, eqb}
+use Rattle.std.specs.Prelude.{◌≡◌, Bool, cond, ◌&&◌, ◌||◌, List, [], ◌∷◌, ℕ, zero, suc, ◌+◌, ◌-◌, ◌*◌, ◌≤◌, ◌<◌, length, get_or, leb, eqb, Result, Ok, Err}
+use Rattle.limits.specs.declared.refusal.Refusal.{Refusal}
+use Rattle.limits.specs.Refusal.{code_of}
 use Rattle.limits.specs.Limits.{max_word}
 use Rattle.number.specs.Number.{on_number}
 use Rattle.evidence_number.specs.Evidence.{read_evidence}
 use Rattle.evidence_number.specs.Numbers.{Numbers, got, refused, after}
-use Rattle.sheet_numbers.specs.declared.Extent.{Extent}
-use Rattle.sheet_numbers.specs.declared.Extent.TheVariants.{End, Refused}
 
 -- ---- "sheet numbers in order by 1, 2, 11", and 15 just after 2
 
@@ -34,11 +34,6 @@ abbrev pub flagged : List ℕ → ℕ → Bool
 flagged allowed p = eqb (get_or allowed p 0) 1
 
 -- what was read into a slice that now holds l
-abbrev pub numbers_of : Extent → List ℕ → Numbers
-numbers_of (End e) l = got l e
-numbers_of (Refused r) l = refused r
-
--- the refusal, 0 where there is none
-abbrev pub refusal_of : Extent → ℕ
-refusal_of (End e) = 0
-refusal_of (Refused r) = r
+abbrev pub numbers_of : Result ℕ Refusal → List ℕ → Numbers
+numbers_of (Ok e) l = got l e
+numbers_of (Err r) l = refused (code_of r)

@@ -1,20 +1,22 @@
 -- The rules of a state, by the ways through their test.
-use mathlib.Core.Path.{◌≡◌, refl, sym, ◌∙◌}
+use mathlib.Core.Path.{◌≡◌, refl, sym, ap, ◌∙◌}
 use mathlib.Core.Bool.{Bool, true, false, true≢false, false≢true}
 use mathlib.Core.Logic.{◌↔◌}
 use mathlib.Core.List.{List}
-use Prim.Native.Nat.{ℕ, suc, ◌+◌, ◌*◌, ◌%◌, ◌≤◌, ◌<◌}
+use Prim.Native.Nat.{ℕ, ◌+◌, ◌-◌, ◌*◌, ◌%◌, ◌≤◌, ◌<◌}
 use native.Mathlib.Omega.{arith}
-use native.Mathlib.Decide.{ℕ_discrete}
 use native.Mathlib.Numerals.{add-one}
-use native.Mathlib.Nat.{mul-le-mul_right}
+use native.Mathlib.Nat.{zero-add, mul-le-mul_right}
 use lib.ListN.{length, get_or}
-use borrow.Author.Tests.{eqb-true, eq-eqb}
+use borrow.Author.Tests.{eqb-true}
+use Rattle.std.specs.Bool.{MatchBool}
+use Rattle.std.specs.List.{All, between, AllWithin, HoldsAt, range_with_len}
+use Rattle.std.proofs.lemmas.List.Elements.{All-from_get_or}
+use Rattle.std.proofs.lemmas.List.Edits.{length-between, get_or-between}
+use Rattle.std.proofs.lemmas.List.FromFn.{length-range_with_len, get_or-range_with_len}
 use Rattle.theory.specs.Adjacency.{Adjacent, Rows}
-use Rattle.theory.specs.Sheet.{in_of, height_of}
-use Rattle.shapes.specs.Layout.{rows_in, faces_in, corners_in}
+use Rattle.theory.specs.Sheet.{in_of}
 use Rattle.theory.proofs.Rows.{rows_length, rows_below}
-use Rattle.sheet_rules.specs.Rules.{Touched, StepsKeep, FacesIn, StateKeeps}
 
 -- ---- a test that is told
 
@@ -40,96 +42,58 @@ opens {b} e n = sym e ∙ n
 pub in_odd : (sheet : List ℕ) (p : ℕ) → in_of sheet p ≡ true → get_or sheet p 0 % 2 ≡ 1
 in_odd sheet p e = eqb-true (get_or sheet p 0 % 2) 1 e
 
-pub odd_in : (sheet : List ℕ) (p : ℕ) → 1 ≤ get_or sheet p 0 % 2 → in_of sheet p ≡ true
-odd_in sheet p h = eq-eqb (get_or sheet p 0 % 2) 1 (omega arith)
-
 -- the states of location l, of R regions each, stand below S
 pub location_room : (l L R S : ℕ) → S ≡ L * R → l < L → l * R + R ≤ S
 location_room l L R S e h = omega (arith, mul-le-mul_right R (let k : l + 1 ≤ L = omega arith in k))
 
--- ---- rows
+-- ---- rows: those of p are a part of the list, which an iterator goes over
 
-module _ {first targets : List ℕ} {n : ℕ} (H : Rows first targets n) where
-  module _ (p : ℕ) (b : p < n) where
-    pub row_length : get_or first (suc p) 0 ≤ length targets
-    row_length = rw (add-one p) at (rows_length H p b)
+-- the numbers of row p
+abbrev pub row : List ℕ → List ℕ → ℕ → List ℕ
+row first targets p = between (get_or first p 0) (get_or first (p + 1) 0) targets
 
-    pub row_below : (i : ℕ) → i < get_or first (suc p) 0 → get_or targets i 0 < n
-    row_below i l = rows_below H p i b (rw (add-one p) l)
+module _ {first targets : List ℕ} {n : ℕ} (H : Rows first targets n) (p : ℕ) (b : p < n) where
+  abbrev from : ℕ
+  from = get_or first p 0
 
--- the places of a row up to i hold numbers that pass
-abbrev pub Passed : (ℕ → Type 0) → List ℕ → ℕ → ℕ → Type 0
-Passed P targets from i = (k : ℕ) → from ≤ k → k < i → P (get_or targets k 0)
+  abbrev to : ℕ
+  to = get_or first (p + 1) 0
 
-module _ (P : ℕ → Type 0) (targets : List ℕ) where
-  pub passed_none : (from : ℕ) → Passed P targets from from
-  passed_none from k l h = absurd (omega arith)
+  -- how long it is, and what stands in it
+  row_long : length (row first targets p) ≡ to - from
+  row_long = length-between targets from to (rows_length H p b)
 
-  pub passed_more : (from i : ℕ) → Passed P targets from i → P (get_or targets i 0) → Passed P targets from (i + 1)
-  passed_more from i h p k l b = by (ℕ_discrete k i)
-    where
-      by : Dec (k ≡ i) → P (get_or targets k 0)
-      by (yes e) = rw e p
-      by (no e) = h k l (omega arith)
+  row_at : (k : ℕ) → k < length (row first targets p) → get_or (row first targets p) k 0 ≡ get_or targets (from + k) 0
+  row_at k h = get_or-between targets from to k 0 (omega (arith, row_long))
 
-  module _ (first : List ℕ) (p : ℕ) where
-    -- all places: each number of the row
-    pub passed_all : (i : ℕ) → get_or first (suc p) 0 ≤ i → Passed P targets (get_or first p 0) i → (q : ℕ) → Adjacent first targets p q → P q
-    passed_all i l h q a = rw a.is at (h a.place a.after (omega (arith, a.before)))
+  -- nodes
+  pub row_below : All (λ q. q < n) (row first targets p)
+  row_below = All-from_get_or (λ q. q < n) (row first targets p) 0 λ k h. rw (row_at k h) (rows_below H p (from + k) b (omega (arith, row_long)))
 
-    -- a number that does not pass
-    pub passed_not : (i : ℕ) → get_or first p 0 ≤ i → i < get_or first (suc p) 0 → (P (get_or targets i 0) → ⊥)
-        → ((q : ℕ) → Adjacent first targets p q → P q) → ⊥
-    passed_not i l b n h = n (h (get_or targets i 0) (record { place = i; after = l; before = b; is = refl }))
+  -- a test that holds of all its numbers, told by its first failure or by none
+  pub row_all : (r : Bool) (P No : ℕ → Type 0) → ((q : ℕ) → No q → P q → ⊥)
+      → MatchBool r (AllWithin P (row first targets p) 0 (length (row first targets p)))
+      ((k : ℕ) × (k < length (row first targets p)) × HoldsAt No (row first targets p) k)
+      → (r ≡ true) ↔ ((q : ℕ) → Adjacent first targets p q → P q)
+  row_all true P No n A = told λ q a.
+      let i : from + (a.place - from) ≡ a.place = omega (arith, a.after) in
+      let before : a.place < to = rw (add-one p) a.before in
+      let k : a.place - from < length (row first targets p) = omega (arith, row_long, a.after) in
+      rw (row_at (a.place - from) k ∙ ap (λ (j : ℕ). get_or targets j 0) i ∙ a.is) at (A (a.place - from) 0 (omega arith) k)
+  row_all false P No n (k, l, h) = denied λ f.
+      n (get_or (row first targets p) k 0) (h 0)
+      (f _ (record { place = from + k; after = omega arith; before = let t : from + k < to = omega (arith, row_long) in rw (← add-one p) t; is = sym (row_at k l) }))
 
--- ---- a state
+-- ---- a test of each number below n, told by its first failure or by none
+module _ (P No : ℕ → Type 0) (apart : (k : ℕ) → No k → P k → ⊥) (n : ℕ) where
+  range_at : (k : ℕ) → k < n → get_or (range_with_len 0 n) k 0 ≡ k
+  range_at k h = get_or-range_with_len 0 n k 0 h ∙ zero-add k
 
-module _ {sheet first targets shapes : List ℕ} {base R : ℕ} {forbidden : Bool} {i : ℕ} where
-  module _ (t : in_of sheet (base + i) ≡ true) where
-    pub in_forbidden : forbidden ≡ true → StateKeeps sheet first targets shapes base R forbidden i → ⊥
-    in_forbidden e K = true≢false (sym e ∙ K.ordinary t)
-
-    pub in_faces : (FacesIn sheet (rows_in R shapes) (faces_in R shapes) base i → ⊥) → StateKeeps sheet first targets shapes base R forbidden i → ⊥
-    in_faces n K = n (K.face_in t)
-
-    pub in_steps : forbidden ≡ false → FacesIn sheet (rows_in R shapes) (faces_in R shapes) base i → (b : Bool)
-        → (b ≡ true) ↔ StepsKeep sheet first targets (base + i) 1 (height_of sheet (base + i) + 1)
-        → (b ≡ true) ↔ StateKeeps sheet first targets shapes base R forbidden i
-    in_steps o f b s = (
-      λ e. let k = s.0 e in record {
-        ordinary = λ _. o;
-        face_in = λ _. f;
-        flow_in = λ _ q a. odd_in sheet q (k q a).0;
-        no_rise = λ q a. omega (arith, (k q a).1);
-        lower = λ u. absurd (true≢false (sym t ∙ u));
-      },
-      λ K. s.1 (λ q a. (omega (arith, in_odd sheet q (K.flow_in t q a)), omega (arith, K.no_rise q a))),
-    )
-
-  module _ (o : in_of sheet (base + i) ≡ false) where
-    out_keeps : ((q : ℕ) → Adjacent first targets (base + i) q → height_of sheet q ≤ height_of sheet (base + i))
-        → (Touched sheet (corners_in R shapes) base R i → (q : ℕ) → Adjacent first targets (base + i) q → height_of sheet q < height_of sheet (base + i))
-        → StateKeeps sheet first targets shapes base R forbidden i
-    out_keeps n l = record {
-      ordinary = λ t. absurd (true≢false (sym t ∙ o));
-      face_in = λ t. absurd (true≢false (sym t ∙ o));
-      flow_in = λ t. absurd (true≢false (sym t ∙ o));
-      no_rise = n;
-      lower = λ _. l;
-    }
-
-    pub out_touched : Touched sheet (corners_in R shapes) base R i → (b : Bool)
-        → (b ≡ true) ↔ StepsKeep sheet first targets (base + i) 0 (height_of sheet (base + i))
-        → (b ≡ true) ↔ StateKeeps sheet first targets shapes base R forbidden i
-    out_touched w b s = (
-      λ e. let k = s.0 e in out_keeps (λ q a. omega (arith, (k q a).1)) (λ _ q a. (k q a).1),
-      λ K. s.1 (λ q a. (omega arith, K.lower o w q a)),
-    )
-
-    pub out_apart : (Touched sheet (corners_in R shapes) base R i → ⊥) → (b : Bool)
-        → (b ≡ true) ↔ StepsKeep sheet first targets (base + i) 0 (height_of sheet (base + i) + 1)
-        → (b ≡ true) ↔ StateKeeps sheet first targets shapes base R forbidden i
-    out_apart n b s = (
-      λ e. let k = s.0 e in out_keeps (λ q a. omega (arith, (k q a).1)) (λ w. absurd (n w)),
-      λ K. s.1 (λ q a. (omega arith, omega (arith, K.no_rise q a))),
-    )
+  pub range_all : (r : Bool)
+      → MatchBool r (AllWithin P (range_with_len 0 n) 0 (length (range_with_len 0 n)))
+      ((k : ℕ) × (k < length (range_with_len 0 n)) × HoldsAt No (range_with_len 0 n) k)
+      → (r ≡ true) ↔ ((k : ℕ) → k < n → P k)
+  range_all true A = told λ k h. rw (range_at k h) at (A k 0 (omega arith) (omega (arith, length-range_with_len 0 n)))
+  range_all false (k, l, h) = denied λ f.
+      let b : k < n = omega (arith, length-range_with_len 0 n) in
+      apart k (rw (range_at k b) at (h 0)) (f k b)

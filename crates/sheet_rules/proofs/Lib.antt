@@ -1,7 +1,7 @@
 -- Laws behind the functions' proofs.
 
 -- The points that are noted.
-pub mod Corners
+pub mod Notes
 -- The rules of a state by the ways through their test.
 pub mod Keeps
 -- The rules by arrays are those of the system.

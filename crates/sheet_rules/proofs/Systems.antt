@@ -5,6 +5,7 @@ use mathlib.Core.Logic.{◌↔◌}
 use mathlib.Core.List.{List}
 use Prim.Native.Nat.{ℕ, zero, suc, ◌+◌, ◌*◌, ◌/◌, ◌%◌, ◌<◌}
 use native.Mathlib.Omega.{arith}
+use native.Mathlib.Numerals.{add-one}
 use native.Mathlib.Nat.{div-add-mod', mod-lt, div-lt_iff_lt-mul}
 use lib.ListN.{get_or}
 use lib.Dec.{eqb}
@@ -16,8 +17,8 @@ use Rattle.theory.proofs.Below.{true_unless_false}
 use Rattle.shapes.specs.Layout.{rows_in, faces_in, corners_in, ShapesRoom, ShareCorner}
 use Rattle.sheet_rules.specs.Tables.{Slots, RuleSizes}
 use Rattle.sheet_rules.specs.Rules.{Blank, Touched, StateKeeps, LocationKeeps}
-use Rattle.theory.proofs.Rows.{holds_rows}
-use Rattle.sheet_rules.proofs.Keeps.{in_odd, location_room, row_below}
+use Rattle.theory.proofs.Rows.{holds_rows, rows_below}
+use Rattle.sheet_rules.proofs.Keeps.{in_odd, location_room}
 
 -- ---- arrays that tell of a system: state p is region p % R of location p / R
 
@@ -145,7 +146,7 @@ module _ (Y : System) (L : Laws Y) {locations start R : ℕ} {kind first targets
           record {
             ordinary = λ t. sym (rw e at (T.forbidden p c)) ∙ K.none_forbidden p c t;
             face_in = λ t j a.
-                let k : j < R = rw a.is at (row_below (holds_rows T.face_lists) i h a.place a.before) in
+                let k : j < R = rw a.is at (rows_below (holds_rows T.face_lists) i a.place h (rw (add-one i) a.before)) in
                 K.face_in p (l * R + j) t ((T.face p (l * R + j)).1 (
                   in_allowed Y L T.corners sheet blank p c t,
                   state_of Y L T.corners l j b k,

@@ -1,14 +1,14 @@
 -- The rules of a sheet by the arrays. `sheet` has the numbers, each 2h+i; the states of a location are base, base + 1, ..
 use Rattle.std.specs.Prelude.{◌≡◌, Bool, true, false, ◌↔◌, List, ℕ, ◌+◌, ◌*◌, ◌/◌, ◌%◌, ◌≤◌, ◌<◌, length, get_or}
 use Rattle.theory.specs.System.{System}
-use Rattle.theory.specs.Adjacency.{Adjacent, Rows}
+use Rattle.theory.specs.Adjacency.{Adjacent}
 use Rattle.theory.specs.Sheet.{in_of, height_of}
 use Rattle.limits.specs.Limits.{slot_count, point_count}
 use Rattle.shapes.specs.Layout.{rows_in, faces_in, corners_in, ShareCorner}
 use Rattle.model.specs.declared.Model.{Model}
 use Rattle.graph.specs.Plan.{system_of_model}
 use Rattle.graph.specs.States.{states}
-use Rattle.sheet_rules.specs.Tables.{Slots, RuleSizes, RuleTables}
+use Rattle.sheet_rules.specs.Tables.{RuleSizes, RuleTables}
 
 -- "a state not allowed has 0", so it is out
 abbrev pub Blank : System → List ℕ → Type 0
@@ -73,32 +73,10 @@ LocationKeeps sheet first targets shapes base R forbidden =
 
 -- ---- what the tests are asked of
 
--- the faces of region i
-pub record FacesAsked (sheet rows faces : List ℕ) (base R i : ℕ) : Type 0 where
-  pub room : base + R ≤ length sheet
-  pub below : i < R
-  pub lists : Rows rows faces R
-
--- the corners of region i, where those before it are noted, and where all are
-pub record NoteAsked (sheet corner noted : List ℕ) (base R i : ℕ) : Type 0 where
-  pub room : base + R ≤ length sheet
-  pub below : i < R
-  pub slots : Slots R corner
-  pub flags : Noted sheet corner noted base i
-
-pub record TouchAsked (sheet corner noted : List ℕ) (base R i : ℕ) : Type 0 where
-  pub below : i < R
-  pub slots : Slots R corner
-  pub flags : Noted sheet corner noted base R
-
+-- a location of R regions, whose states begin at `base`
 pub record LocationAsked (sheet first targets shapes : List ℕ) (base R : ℕ) : Type 0 where
   pub room : base + R ≤ length sheet
   pub sizes : RuleSizes (length sheet) R first targets shapes
-
-pub record StateAsked (sheet first targets shapes noted : List ℕ) (base R i : ℕ) : Type 0 where
-  pub location : LocationAsked sheet first targets shapes base R
-  pub below : i < R
-  pub flags : Noted sheet (corners_in R shapes) noted base R
 
 pub record SheetAsked (m : Model) (first targets shapes sheet : List ℕ) : Type 0 where
   pub filled : RuleTables m first targets shapes

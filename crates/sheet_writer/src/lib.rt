@@ -13,21 +13,14 @@ ghost use Rattle.spelling.specs.Lays.{Lays};
 ghost use Rattle.sheet_writer.specs.Data.{SheetData};
 
 use limits::Word;
-use limits::cast::{from_word, to_word};
 use model::Model;
-
-fn flag(b: bool) -> usize
-    ensures { (result ≡ bit b) × (result ≤ 1) }
-{
-    if b { 1 } else { 0 }
-}
 
 // 01: "2h+i". The lowest bit beside a height tells of closed walks, so the mark takes its place; a state with a number other than 0 is marked.
 fn state_number(height: Word, mark: Word) -> usize
     requires { height < 2 * max_states }
     ensures { (result ≡ height / 2 * 2 + bit (ltb 0 mark)) × (result < 2 * max_states) }
 {
-    from_word(height / 2 * 2) + flag(0 < mark)
+    usize::from(height / 2 * 2) + usize::from(0 < mark)
 }
 
 // The numbers of our sheet after the first. Contracts name the model and whether it has touch steps; no code reads them here.
@@ -35,10 +28,8 @@ pub fn fill_sheet(m: Model, touch: bool, heights: &[Word], marks: &[Word], sheet
     requires { Lawful m × SheetData (with_touch touch (system_of_model m)) heights.now marks.now × (length sheet.old ≡ length heights.now) }
     ensures { sheet.new ≡ our_sheet (with_touch touch (system_of_model m)) }
 {
-    let mut p = 0;
-    while p < heights.len() {
-        sheet[p] = to_word(state_number(heights[p], marks[p]));
-        p += 1;
+    for (p, &height) in heights.iter().enumerate() {
+        sheet[p] = state_number(height, marks[p]) as Word;
     }
 }
 
@@ -48,10 +39,8 @@ pub fn put_sheet(m: Model, touch: bool, heights: &[Word], marks: &[Word], out: &
     ensures { Lays out.old out.new 0 result (spell_all (1 ∷ our_sheet (with_touch touch (system_of_model m)))) }
 {
     let mut end = spelling::put(out, 0, 1);
-    let mut p = 0;
-    while p < heights.len() {
-        end = spelling::put(out, end, state_number(heights[p], marks[p]) as u32);
-        p += 1;
+    for (p, &height) in heights.iter().enumerate() {
+        end = spelling::put(out, end, state_number(height, marks[p]) as u32);
     }
     end
 }

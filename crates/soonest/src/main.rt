@@ -6,8 +6,7 @@ ghost use Rattle.std.specs.Prelude.{◌≡◌, IfOk};
 ghost use Rattle.printing.specs.Text.{Writes};
 ghost use Rattle.soonest.specs.Arrivals.{arrival_text, is_told};
 
-use limits::refusal::UNREACHED;
-use op_soonest::Arrival;
+use limits::refusal::Refusal;
 use printing::{line, put, refuse, say};
 use reading::read_full;
 use std::io;
@@ -17,23 +16,23 @@ use std::io::Write;
 const INPUT: usize = 4096;
 
 // The line of a location; false if the call is refused.
-fn show<W: Write>(to: &mut W, location: u64, found: Arrival) -> io::Result<bool>
+fn show<W: Write>(to: &mut W, location: u64, found: Result<usize, Refusal>) -> io::Result<bool>
     ensures text { Writes (W.contents to.old) (W.contents to.new) result (arrival_text location found) }
     ensures told { IfOk result (λ b. b ≡ is_told found) }
 {
     match found {
-        Arrival::Time(units) => {
+        Ok(units) => {
             put(to, b"location ", location)?;
             line(to, b" time ", units as u64)?;
             Ok(true)
         }
-        Arrival::Refused(number) => {
-            if number == UNREACHED {
-                put(to, b"location ", location)?;
-                say(to, b" never\n")?;
-                return Ok(true);
-            }
-            refuse(to, number)?;
+        Err(Refusal::Unreached) => {
+            put(to, b"location ", location)?;
+            say(to, b" never\n")?;
+            Ok(true)
+        }
+        Err(r) => {
+            refuse(to, r.code())?;
             Ok(false)
         }
     }
@@ -53,12 +52,10 @@ fn show_time<W: Write>(to: &mut W, plan: &[u8], location: u64) -> io::Result<boo
 }
 
 fn show_times<W: Write>(to: &mut W, plan: &[u8], locations: u8) -> io::Result<()> {
-    let mut location = 0;
-    while location < locations as u64 {
-        if !show_time(to, plan, location)? {
+    for location in 0..locations {
+        if !show_time(to, plan, location as u64)? {
             return Ok(());
         }
-        location += 1;
     }
     Ok(())
 }
@@ -67,10 +64,8 @@ fn main(rt: HostRuntime) -> io::Result<()> {
     let mut input = [0u8; INPUT];
     let n = read_full(&mut rt.reader(), &mut input)?;
     let mut to = io::writer(&rt);
-    let read = plan_reader::read_model(&input[..n]);
-    if read.refusal != 0 {
-        refuse(&mut to, read.refusal)
-    } else {
-        show_times(&mut to, &input[..n], read.model.locations)
+    match plan_reader::read_model(&input[..n]) {
+        Ok(plan) => show_times(&mut to, &input[..n], plan.model.locations),
+        Err(r) => refuse(&mut to, r.code()),
     }
 }

@@ -1,14 +1,14 @@
 -- Calls that write bytes. 02: "its answer, as of any later call that writes bytes and names no other, is their number."
-use Rattle.std.specs.Prelude.{cond, List, [], ◌∷◌, ℕ, eqb, ltb, length}
+use Rattle.std.specs.Prelude.{cond, List, [], ◌∷◌, ℕ, Result, Ok, Err, eqb, ltb, length}
+use Rattle.limits.specs.declared.refusal.Refusal.{Refusal}
+use Rattle.limits.specs.Refusal.{code_of}
 use Rattle.number.specs.Answer.{Answer, answer}
-use Rattle.spelling.specs.declared.Stored.{Stored}
-use Rattle.spelling.specs.declared.Stored.TheVariants.{Bytes, Refused}
 use Rattle.spelling.specs.Lays.{filled}
 
 -- the number and the value of each case
-unfoldable pub stored_answer : Stored → Answer
-stored_answer (Bytes n) = record { number = 0; values = n ∷ [] }
-stored_answer (Refused r) = record { number = r; values = [] }
+unfoldable pub stored_answer : Result ℕ Refusal → Answer
+stored_answer (Ok n) = record { number = 0; values = n ∷ [] }
+stored_answer (Err r) = record { number = code_of r; values = [] }
 
 -- "Output too short is 9, after" every other refusal
 abbrev pub last_refusal : ℕ → ℕ → ℕ → ℕ

@@ -6,14 +6,8 @@ ghost use Rattle.std.specs.Prelude.{◌+◌, ◌<◌, ◌≤◌, ◌^◌, length
 ghost use Rattle.number.specs.Number.{spell};
 ghost use Rattle.spelling.specs.Lays.{Lays, max_bytes};
 
-// How a call ends that writes bytes: how many they are, or the refusal.
-#[derive(Clone, Copy)]
-pub enum Stored {
-    Bytes(usize),
-    Refused(u8),
-}
-
 // The number at an offset; the offset after it.
+#[tactic(auto, using(crate::proofs::Lays::lays_not))]
 pub fn put(out: &mut [u8], at: usize, v: u32) -> usize
     requires { (v < 2 ^ 21) × (at + length (spell v) ≤ max_bytes) }
     ensures { Lays out.old out.new at result (spell v) }

@@ -2,14 +2,13 @@
 use Prim.Native.Nat.{ℕ, zero, suc, ◌+◌, ◌≤◌, ◌<◌, max}
 use native.Mathlib.Decide.{dec_lt}
 use native.Mathlib.Omega.{arith}
-use native.Mathlib.Numerals.{add-one}
-use mathlib.Core.Path.{◌≡◌, refl, sym, ap}
+use mathlib.Core.Path.{◌≡◌, refl}
 use mathlib.Core.Bool.{Bool, true, false, cond}
 use lib.Dec.{eqb}
 use borrow.Author.Tests.{eqb-true, eqb-false}
 use Rattle.stay_limits.specs.Stay.{last_exit}
 
--- ---- as the code goes: one edge more
+-- ---- the greater of two
 
 pub later : (g h : ℕ) → g ≤ h → max g (h + 1) ≡ h + 1
 later g h p = omega arith
@@ -18,14 +17,6 @@ pub sooner : (g h : ℕ) → h < g → max g (h + 1) ≡ g
 sooner g h p = omega arith
 
 module _ (source high : ℕ → ℕ) (l : ℕ) where
-  pub exit_none : 0 ≡ last_exit source high l 0
-  unfolding last_exit
-  exit_none = refl
-
-  pub exit_next : (e : ℕ) → cond (eqb (source e) l) (max (last_exit source high l e) (high e + 1)) (last_exit source high l e) ≡ last_exit source high l (e + 1)
-  unfolding last_exit
-  exit_next e = ap (last_exit source high l) (sym (add-one e))
-
   -- ---- at most one more than the greatest
 
   pub exit_most : (c k : ℕ) → ((e : ℕ) → e < k → high e ≤ c) → last_exit source high l k ≤ c + 1

@@ -1,10 +1,15 @@
 -- What a blank stay field stands for, by the mark of its plan. Edges are told by where they come from and by their high end for one clock.
-use Rattle.std.specs.Prelude.{ℕ, zero, suc, ◌+◌, ◌-◌, ◌*◌, ◌≤◌, max, List, cond, get_or, eqb}
+use Rattle.std.specs.Prelude.{ℕ, zero, suc, ◌+◌, ◌-◌, ◌*◌, ◌≤◌, max, List, Option, None, Some, cond, get_or, eqb}
 use Rattle.limits.specs.Limits.{max_clocks, max_ceiling}
 
 -- one more than a limit, or 0 for the ceiling, as in 01: "0 means the ceiling, any other s means limit s-1"
 abbrev pub resolve : ℕ → ℕ → ℕ
 resolve M s = cond (eqb s 0) M (s - 1)
+
+-- one more than a limit, or 0 for none
+abbrev pub one_more : Option ℕ → ℕ
+one_more None = 0
+one_more (Some h) = h + 1
 
 -- 02: "the greatest high end for that clock among the edges leaving the location". One more than that, of the first k edges; 0 where none of them leaves.
 unfoldable pub last_exit : (ℕ → ℕ) → (ℕ → ℕ) → ℕ → ℕ → ℕ

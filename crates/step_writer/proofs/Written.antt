@@ -1,11 +1,12 @@
 -- Labels, walks and regions, laid number by number.
 use mathlib.Core.Path.{◌≡◌, refl, sym, ap, ◌∙◌}
 use mathlib.Core.List.{List, [], ◌∷◌, ◌++◌, append_assoc, append-nil}
-use Prim.Native.Nat.{ℕ, zero, suc, ◌+◌, ◌-◌, ◌≤◌, ◌<◌}
+use Prim.Native.Nat.{ℕ, suc, ◌+◌, ◌≤◌, ◌<◌}
 use native.Mathlib.Numerals.{add-one}
 use native.Mathlib.Omega.{arith}
 use lib.ListN.{length, length-append, get_or, take, drop, drop_of_length-le}
-use lib.Seq.{drop-cons}
+use lib.Seq.{drop-cons, take-length}
+use Rattle.std.proofs.lemmas.List.{take_more, take-append-drop}
 use Rattle.theory.specs.Region.{Clock}
 use Rattle.theory.specs.Enumeration.{key}
 use Rattle.theory.specs.Labels.{LabelledSystem, least_label, labels_along}
@@ -21,64 +22,49 @@ use Rattle.spelling.proofs.Lays.{lays_none, lays_then, lays_as}
 
 -- ---- a label
 
-pub time_spelled : (x : ℕ) → x ≡ 0 → spell 0 ≡ spell_all (label_numbers x)
+pub time_spelled : spell 0 ≡ spell_all (label_numbers 0)
 unfolding spell_all
-time_spelled zero e = sym (append-nil (spell 0))
-time_spelled (suc x) e = absurd (omega arith)
+time_spelled = sym (append-nil (spell 0))
 
-pub jump_spelled : (x : ℕ) → (x ≡ 0 → ⊥) → spell 1 ++ spell (x - 1) ≡ spell_all (label_numbers x)
+pub jump_spelled : (e : ℕ) → spell 1 ++ spell e ≡ spell_all (label_numbers (suc e))
 unfolding spell_all
-jump_spelled zero h = absurd (h refl)
-jump_spelled (suc x) h =
-    let z : suc x - 1 ≡ x = omega arith in rw (z, append-nil (spell x)) refl
+jump_spelled e = rw (append-nil (spell e)) refl
 
-pub jump_length : (x : ℕ) → (x ≡ 0 → ⊥) → length (spell 1) + length (spell (x - 1)) ≡ length (spell_all (label_numbers x))
-jump_length x h = sym (length-append (spell 1) (spell (x - 1))) ∙ ap length (jump_spelled x h)
+pub jump_length : (e : ℕ) → length (spell 1) + length (spell e) ≡ length (spell_all (label_numbers (suc e)))
+jump_length e = sym (length-append (spell 1) (spell e)) ∙ ap length (jump_spelled e)
 
--- ---- as many of three numbers as there are clocks
+-- ---- numbers, i of them laid
 
-module _ (n : ℕ) (k : Clocks n) (x y z : ℕ) where
-  abbrev numbers : List ℕ
-  numbers = spell_all (take n (x ∷ y ∷ z ∷ []))
-
-  pub one_spelled : n < 2 → spell x ≡ numbers
+module _ (ns : List ℕ) where
+  pub numbers_none : (o : List ℕ) (at : ℕ) → Lays o o at at (spell_all (take 0 ns))
   unfolding spell_all
-  one_spelled =
-      clock_cases (λ n. n < 2 → spell x ≡ spell_all (take n (x ∷ y ∷ z ∷ [])))
-      (λ _. sym (append-nil (spell x))) (λ h. absurd (omega arith)) (λ h. absurd (omega arith)) n k
+  numbers_none o at = lays_none o at
 
-  pub two_spelled : 2 ≤ n → n < 3 → spell x ++ spell y ≡ numbers
-  unfolding spell_all
-  two_spelled =
-      clock_cases (λ n. 2 ≤ n → n < 3 → spell x ++ spell y ≡ spell_all (take n (x ∷ y ∷ z ∷ [])))
-      (λ h _. absurd (omega arith)) (λ _ _. ap (λ l. spell x ++ l) (sym (append-nil (spell y)))) (λ _ h. absurd (omega arith)) n k
+  module _ (i v : ℕ) (h : i < length ns) (e : v ≡ get_or ns i 0) where
+    next_spelled : spell_all (take i ns) ++ spell v ≡ spell_all (take (i + 1) ns)
+    unfolding spell_all
+    next_spelled =
+        ap (λ (l : List ℕ). spell_all (take i ns) ++ l) (sym (append-nil (spell v)))
+        ∙ sym (spell_append (take i ns) (v ∷ []))
+        ∙ ap spell_all (ap (λ (x : ℕ). take i ns ++ x ∷ []) e ∙ sym (take_more ns i 0 h))
 
-  pub all_spelled : 3 ≤ n → (spell x ++ spell y) ++ spell z ≡ numbers
-  unfolding spell_all
-  all_spelled =
-      clock_cases (λ n. 3 ≤ n → (spell x ++ spell y) ++ spell z ≡ spell_all (take n (x ∷ y ∷ z ∷ [])))
-      (λ h. absurd (omega arith)) (λ h. absurd (omega arith))
-      (λ _. append_assoc (spell x) (spell y) (spell z) ∙ ap (λ l. spell x ++ (spell y ++ l)) (sym (append-nil (spell z)))) n k
+    pub number_fits : length (spell_all (take i ns)) + length (spell v) ≤ length (spell_all ns)
+    number_fits =
+        let a : length (spell_all (take i ns) ++ spell v) ≡ length (spell_all (take (i + 1) ns)) = ap length next_spelled in
+        let b : length (spell_all (take (i + 1) ns) ++ spell_all (drop (i + 1) ns)) ≡ length (spell_all ns)
+        = ap length (sym (spell_append (take (i + 1) ns) (drop (i + 1) ns)) ∙ ap spell_all (take-append-drop (i + 1) ns)) in
+        omega (
+          arith,
+          length-append (spell_all (take i ns)) (spell v),
+          length-append (spell_all (take (i + 1) ns)) (spell_all (drop (i + 1) ns)),
+        )
 
-  -- the numbers so far are no longer than all of them
-  pub one_fits : length (spell x) ≤ length numbers
-  unfolding spell_all
-  one_fits =
-      let cut : (l : List ℕ) → length (spell x) ≤ length (spell x ++ l) = λ l. omega (arith, length-append (spell x) l) in
-      clock_cases (λ n. length (spell x) ≤ length (spell_all (take n (x ∷ y ∷ z ∷ [])))) (cut _) (cut _) (cut _) n k
+    pub number_laid : {o o₁ o₂ : List ℕ} {at end r : ℕ} → Lays o o₁ at end (spell_all (take i ns)) → Lays o₁ o₂ end r (spell v)
+        → Lays o o₂ at r (spell_all (take (i + 1) ns))
+    number_laid a b = lays_as (lays_then a b) next_spelled
 
-  pub two_fit : 2 ≤ n → length (spell x) + length (spell y) ≤ length numbers
-  unfolding spell_all
-  two_fit =
-      let cut : (l : List ℕ) → length (spell x) + length (spell y) ≤ length (spell x ++ (spell y ++ l))
-      = λ l. omega (arith, length-append (spell x) (spell y ++ l), length-append (spell y) l) in
-      clock_cases (λ n. 2 ≤ n → length (spell x) + length (spell y) ≤ length (spell_all (take n (x ∷ y ∷ z ∷ []))))
-      (λ h. absurd (omega arith)) (λ _. cut _) (λ _. cut _) n k
-
-  pub all_fit : 3 ≤ n → length (spell x) + length (spell y) + length (spell z) ≤ length numbers
-  all_fit h =
-      let e : length ((spell x ++ spell y) ++ spell z) ≡ length numbers = ap length (all_spelled h) in
-      omega (arith, length-append (spell x ++ spell y) (spell z), length-append (spell x) (spell y))
+  pub numbers_laid : {o o₁ : List ℕ} {at end : ℕ} (i : ℕ) → i ≡ length ns → Lays o o₁ at end (spell_all (take i ns)) → Lays o o₁ at end (spell_all ns)
+  numbers_laid i e a = lays_as a (ap spell_all (ap (λ (k : ℕ). take k ns) e ∙ take-length ns))
 
 -- ---- a region: "w1..wn, r1..rn"
 

@@ -1,48 +1,56 @@
-// The least label from a state to another: 0 for time, e + 1 for the jump along edge e.
+// The least label from a state to another: time, or else the jump along the first edge that leads there.
 
-ghost use Rattle.std.specs.Prelude.{◌≡◌, ◌<◌, ◌≤◌};
+ghost use Rattle.std.specs.Prelude.{◌≡◌, ◌+◌, ◌<◌, ◌≤◌, IfSome};
 ghost use Rattle.theory.specs.Labels.{leads, least_label};
-ghost use Rattle.model.specs.Model.{Lawful};
 ghost use Rattle.graph.specs.Plan.{labelled_of_model};
-ghost use Rattle.graph.specs.States.{Listed, states, next_of};
+ghost use Rattle.graph.specs.States.{states, next_of};
+ghost use Rattle.trail_numbers.specs.Numbers.{label_number};
+ghost use Rattle.step_writer.specs.Least.{numbered_least};
 
-use graph::Next;
-use model::Model;
+use graph::Space;
+use trail_numbers::Label;
 
 // Where a label leads.
-fn step_by(m: Model, table: &[u32], x: u32, p: usize) -> Next
-    requires { Lawful m × Listed m table.now × (x ≤ m.edges) × (p < states m) }
-    ensures { result ≡ next_of m ((labelled_of_model m).next x p) }
+#[tactic(auto, unfolding(theory::specs::StateGraph::labelled_of, theory::specs::StateGraph::step_from))]
+fn step_by(space: &Space, x: Label, p: usize) -> Option<usize>
+    requires { let m = space.now.plan.now.model in (label_number x ≤ m.edges) × (p < states m) }
+    ensures { let m = space.now.plan.now.model in result ≡ next_of m ((labelled_of_model m).next (label_number x) p) }
 {
-    if x == 0 {
-        return graph::time_step(m, table, p);
+    match x {
+        Label::Time => space.time_step(p),
+        Label::Jump(e) => space.jump_step(e as usize, p),
     }
-    graph::jump_step(m, table, (x - 1) as usize, p)
 }
 
-fn leads_to(m: Model, table: &[u32], x: u32, p: usize, q: usize) -> bool
-    requires { Lawful m × Listed m table.now × (x ≤ m.edges) × (p < states m) }
-    ensures { result ≡ leads (labelled_of_model m) x p q }
+fn leads_to(space: &Space, x: Label, p: usize, q: usize) -> bool
+    requires { let m = space.now.plan.now.model in (label_number x ≤ m.edges) × (p < states m) }
+    ensures { result ≡ leads (labelled_of_model space.now.plan.now.model) (label_number x) p q }
 {
-    let next = step_by(m, table, x, p);
-    let Next::To(s) = next else {
-        return false;
-    };
-    s == q
+    step_by(space, x, p) == Some(q)
 }
 
-// One more than the number of edges where no label leads there.
-pub fn least_label(m: Model, table: &[u32], p: usize, q: usize) -> u32
-    requires { Lawful m × Listed m table.now × (p < states m) × (q < states m) }
-    ensures { result ≡ least_label (labelled_of_model m) p q }
+// None where no label leads there.
+pub fn least_label(space: &Space, p: usize, q: usize) -> Option<Label>
+    requires { let m = space.now.plan.now.model in (p < states m) × (q < states m) }
+    ensures value { let m = space.now.plan.now.model in numbered_least (m.edges + 1) result ≡ least_label (labelled_of_model m) p q }
+    ensures few { IfSome result (λ x. label_number x ≤ space.now.plan.now.model.edges) }
 {
-    let labels = m.edges as u32 + 1;
-    let mut x = 0;
-    while x < labels {
-        if leads_to(m, table, x, p, q) {
-            return x;
+    if leads_to(space, Label::Time, p, q) {
+        return Some(Label::Time);
+    }
+    for e in 0..u32::from(space.plan.model.edges) {
+        let jump = Label::Jump(e);
+        if leads_to(space, jump, p, q) {
+            return Some(jump);
         }
-        x += 1;
     }
-    x
+    None
+}
+
+// The label of a walk's step: the least that leads there; for states that no step joins, the jump along an edge past the last.
+pub fn walk_label(space: &Space, p: usize, q: usize) -> Label
+    requires { let m = space.now.plan.now.model in (p < states m) × (q < states m) }
+    ensures { label_number result ≡ least_label (labelled_of_model space.now.plan.now.model) p q }
+{
+    least_label(space, p, q).unwrap_or(Label::Jump(u32::from(space.plan.model.edges)))
 }

@@ -4,5 +4,5 @@
 mod label;
 mod put;
 
-pub use label::least_label;
+pub use label::{least_label, walk_label};
 pub use put::{put_label, put_region, put_walk};

@@ -1,7 +1,6 @@
 -- The rows as the code fills them: a row of region i of location l, and the rows of a location.
 use Prim.Native.Nat.{ℕ, suc, ◌+◌, ◌*◌, ◌≤◌, ◌<◌}
-use native.Mathlib.Numerals.{add-one}
-use native.Mathlib.Nat.{add-mul, mul-add, add-zero, zero-mul, mul-le-mul_left, mul-le-mul_right}
+use native.Mathlib.Nat.{add-mul, mul-add, mul-le-mul_left, mul-le-mul_right}
 use native.Mathlib.Omega.{arith}
 use mathlib.Core.Path.{◌≡◌, refl, sym, ap, ◌∙◌, subst}
 use mathlib.Core.Bool.{Bool, true, false}
@@ -19,7 +18,7 @@ use Rattle.graph.specs.States.{states}
 use Rattle.limits.specs.Limits.{max_states}
 use Rattle.successors.specs.Rows.{Puts, HoldsBelow}
 use Rattle.successors.specs.Flow.{Given, LeavingEdges, AllowedAt, TimeTo, regions_in, state_of, FlowLists, room}
-use Rattle.successors.proofs.Rows.{puts_none, puts_then, holds_first, holds_more, holds_all}
+use Rattle.successors.proofs.Rows.{puts_none, puts_then, holds_more, holds_all}
 use Rattle.successors.proofs.Flags.{count_is, region_known, table_below}
 use Rattle.successors.proofs.Leaving.{leaving_at}
 use Rattle.successors.proofs.Steps.{JumpsTo, flow_below, no_steps, row}
@@ -107,10 +106,6 @@ module _ {m : Model} {table later index allowed : List ℕ} (given : Given m tab
   abbrev pub Taken : List ℕ → ℕ → ℕ → ℕ → Type 0
   Taken edges l i n = n ≤ room m l + (length edges + 1) * i
 
-  pub rows_first : (l : ℕ) {n : ℕ} {first t : List ℕ} → HoldsBelow first t (states m) (system_of_model m).flow (l * regions_in m) n
-      → HoldsBelow first t (states m) (system_of_model m).flow (state_of m l 0) n
-  rows_first l h = rw add-zero h
-
   module _ {edges : List ℕ} {l : ℕ} (leaves : LeavingEdges m l edges) where
     room_all : room m (l + 1) ≡ room m l + (length edges + 1) * regions_in m
     room_all = rw leaves.are (room_next m l)
@@ -140,10 +135,6 @@ module _ {m : Model} {table later index allowed : List ℕ} (given : Given m tab
         (omega (arith, room_all), subst (λ p. HoldsBelow first t (states m) (system_of_model m).flow p n) p a)
 
   -- ---- the rows of all locations
-
-  pub flow_first : (first t : List ℕ) → length first ≡ states m + 1
-      → HoldsBelow (set first 0 0) t (states m) (system_of_model m).flow (0 * regions_in m) 0
-  flow_first first t e = rw zero-mul (holds_first first t (states m) (system_of_model m).flow (e ∙ add-one (states m)))
 
   pub flow_room : {n : ℕ} → states m + m.edges * length table ≤ n → states m + m.edges * regions_in m ≤ n
   flow_room h = rw count_here at h

@@ -6,8 +6,7 @@ use native.Mathlib.Omega.{arith}
 use mathlib.Core.Path.{◌≡◌, refl, sym, ap, ◌∙◌}
 use mathlib.Core.Bool.{Bool}
 use mathlib.Core.List.{List, [], ◌∷◌}
-use lib.ListN.{length, get_or, set, length-set}
-use lib.Seq.{get_or-set_same, get_or-set_other}
+use lib.ListN.{length, get_or}
 use Rattle.theory.specs.Below.{bit}
 use Rattle.theory.specs.Region.{regions, fits}
 use Rattle.theory.specs.StateGraph.{location_of, region_of, allowed_state}
@@ -24,26 +23,6 @@ use Rattle.graph.proofs.States.{clocks_of, ceiling_of, count_length, fits_three,
 use Rattle.successors.specs.Flags.{Flagged, FlagsBelow}
 use Rattle.successors.specs.Flow.{regions_in, state_of}
 use Rattle.successors.proofs.Numbers.{state_below, state_location, state_region}
-
--- ---- the loop over the regions of a table
-
-pub flagged_none : (table limits : List ℕ) (base : ℕ) (flags : List ℕ) → Flagged table limits base 0 flags flags
-flagged_none table limits base flags = record { long = refl; kept = λ p l. refl; is = λ i l. absurd (omega arith) }
-
-pub flagged_more : {table limits flags flags' : List ℕ} {base n x : ℕ} → Flagged table limits base n flags flags' → base + n < length flags
-    → x ≡ bit (fits (view max_clocks (unpack (get_or table n 0))) limits) → Flagged table limits base (n + 1) flags (set flags' (base + n) x)
-flagged_more {table} {limits} {flags} {flags'} {base} {n} {x} f h e =
-    record {
-      long = length-set flags' (base + n) x ∙ f.long;
-      kept = λ p l. get_or-set_other flags' (base + n) p x 0 (λ q. omega arith) ∙ f.kept p l;
-      is = λ i l. by i l (dec_lt i n);
-    }
-  where
-    by : (i : ℕ) → i < n + 1 → Dec (i < n) → get_or (set flags' (base + n) x) (base + i) 0 ≡ bit (fits (view max_clocks (unpack (get_or table i 0))) limits)
-    by i l (yes d) = get_or-set_other flags' (base + n) (base + i) x 0 (λ q. omega arith) ∙ f.is i d
-    by i l (no d) =
-        let s : i ≡ n = omega (arith, d) in
-        rw s (get_or-set_same flags' (base + n) x 0 (omega (arith, f.long)) ∙ e)
 
 region_here : (m : Model) (l i : ℕ) → i < regions_in m → region_of (automaton_of m) (state_of m l i) ≡ get_or (regions m.clocks m.ceiling) i []
 unfolding automaton_of
@@ -112,6 +91,3 @@ module _ {m : Model} {table : List ℕ} (ok : Lawful m) (listed : Listed m table
           let s : l * length table ≡ l * regions_in m = ap (λ c. l * c) count_is in
           let k : i < length table = omega (arith, count_is, add-mul l 1 (regions_in m), d) in
           rw e at (g.is i k ∙ ap bit (within_is b k))
-
-pub flags_none : {m : Model} {flags : List ℕ} → length flags ≡ states m → FlagsBelow m (0 * regions_in m) flags
-flags_none e = record { long = e; is = λ p l. absurd (omega arith) }

@@ -12,9 +12,8 @@ use borrow.Author.Tests.{eq-eqb, ne_eqb, eqb-true}
 use Rattle.theory.proofs.Lists.{from-length}
 use Rattle.theory.specs.Below.{bit, count}
 use Rattle.theory.specs.Lists.{keep, from}
-use Rattle.theory.proofs.Below.{count-le}
 use Rattle.theory.proofs.Sorted.{keep_law, from_law, at_in, in_at}
-use Rattle.region_table.proofs.Selection.{Filled, filled_start, filled_in, filled_out, filled_end}
+use Rattle.region_table.proofs.Selection.{Filled, filled_in, filled_out, filled_end}
 use Rattle.model.specs.declared.Model.{Model}
 use Rattle.model.specs.Model.{source_of}
 use Rattle.successors.specs.Flow.{leaving}
@@ -44,9 +43,6 @@ module _ (m : Model) (l : ℕ) where
   unfolding leaving
   leaving-count = keep-count Leaves Leaves 0 m.edges (λ i. ap Leaves (zero-add i))
 
-  pub leaving_few : length (leaving m l) ≤ m.edges
-  leaving_few = omega (arith, leaving-count, count-le m.edges Leaves)
-
   pub leaving_at : (k : ℕ) → k < length (leaving m l) → (get_or (leaving m l) k 0 < m.edges) × (source_of m (get_or (leaving m l) k 0) ≡ l)
   unfolding leaving
   leaving_at k h =
@@ -64,9 +60,6 @@ module _ (m : Model) (l : ℕ) where
 
   abbrev pub Listed : List ℕ → List ℕ → ℕ → ℕ → Type 0
   Listed edges₀ edges e n = Filled Leaves (from 0 m.edges) edges₀ edges e n
-
-  pub listed_first : (edges : List ℕ) → Listed edges edges 0 0
-  listed_first edges = filled_start Leaves (from 0 m.edges) edges
 
   module _ {edges₀ edges : List ℕ} {e n : ℕ} (f : Listed edges₀ edges e n) (h : e < m.edges) where
     pub listed_in : m.edges ≤ length edges₀ → source_of m e ≡ l → Listed edges₀ (set edges n e) (e + 1) (n + 1)

@@ -14,9 +14,8 @@ use Rattle.theory.proofs.Below.{count-le}
 use Rattle.limits.specs.Limits.{max_regions, max_states, max_steps}
 use Rattle.model.specs.declared.Model.{Model}
 use Rattle.model.specs.Model.{Lawful, source_of}
-use Rattle.graph.specs.States.{Listed, states}
+use Rattle.graph.specs.States.{states}
 use Rattle.successors.specs.Flow.{regions_in, leaving, FlowLists, room}
-use Rattle.successors.proofs.Flags.{count_is}
 use Rattle.successors.proofs.Leaving.{leaving-count}
 use Rattle.graph.proofs.States as graph
 
@@ -46,12 +45,6 @@ module _ {m : Model} (ok : Lawful m) where
 
   pub states_limit : states m ≤ max_states
   states_limit = graph.states_limit m ok
-
-  -- where a location's states begin
-  pub base_limit : {table : List ℕ} → Listed m table → (l : ℕ) → l ≤ m.locations → l * length table ≤ max_states
-  base_limit {table} listed l h =
-      let e : m.locations * length table ≡ states m = ap (λ c. m.locations * c) (count_is ok listed) in
-      omega (arith, mul-le-mul_right (length table) h, states_limit)
 
   pub steps_limit : states m + m.edges * regions_in m ≤ max_steps
   steps_limit = omega (arith, mul-le-mul ok.edges regions_limit, states_limit)

@@ -111,9 +111,6 @@ module _ {m : Model} {allowed : List ℕ} {count : ℕ} (ok : Lawful m) (f : All
 
 -- ---- a row: the time step, and the jumps along the edges, one after the other
 
-pub jumps_first : (m : Model) (edges : List ℕ) (p : ℕ) (t : List ℕ) (n : ℕ) → Puts 0 (JumpsTo m edges 0 p) t t n n
-jumps_first m edges p t n = puts_none 0 t n (λ q j. omega (arith, j.before))
-
 pub jumps_next : {m : Model} {edges : List ℕ} {p k : ℕ} {t t' t'' : List ℕ} {n n' n'' : ℕ} → Puts k (JumpsTo m edges k p) t t' n n'
     → Puts 1 (Leads (labelled_of_model m) (suc (get_or edges k 0)) p) t' t'' n' n'' → Puts (k + 1) (JumpsTo m edges (k + 1) p) t t'' n n''
 jumps_next {m} {edges} {p} {k} a b = puts_then a b (omega arith) (λ q. (

@@ -1,14 +1,12 @@
 -- An edge in one number: its parts are the edge's limits, mask and target, and its guard is the edge's.
 use Prim.Native.Nat.{ℕ, ◌+◌, ◌*◌, ◌/◌, ◌%◌, ◌≤◌, ◌<◌, ◌^◌}
 use native.Mathlib.Nat.{lt_of_lt_of_le}
-use native.Mathlib.Decide.{dec_lt}
 use native.Mathlib.Omega.{arith}
 use mathlib.Core.Path.{◌≡◌, refl, ap, ap₂, ◌∙◌}
 use mathlib.Core.Bool.{Bool, true, false, cond, ◌&&◌}
-use mathlib.Core.List.{List, [], ◌∷◌}
-use lib.ListN.{length, get_or, set, length-set}
+use mathlib.Core.List.{[], ◌∷◌}
+use lib.ListN.{get_or}
 use lib.Dec.{ltb}
-use lib.Seq.{get_or-set_same, get_or-set_other}
 use Rattle.theory.specs.Region.{fits, attains}
 use Rattle.theory.specs.RegionGraph.{guard_holds}
 use Rattle.limits.specs.Limits.{max_clocks, digit_base, two_digits, three_digits}
@@ -19,7 +17,7 @@ use Rattle.model.specs.declared.Model.{Model}
 use Rattle.model.specs.Model.{Lawful, target_of}
 use Rattle.graph.specs.Plan.{edge_of}
 use Rattle.graph.proofs.States.{clocks_of, guard_opens, guard_shuts}
-use Rattle.successors.specs.Words.{digits, digit_list, word_bound, low_part, high_part, mask_part, target_part, low_at, edge_word, WordsBelow}
+use Rattle.successors.specs.Words.{digits, digit_list, word_bound, low_part, high_part, mask_part, target_part, low_at, edge_word}
 
 digits_below : {a b c : ℕ} → a < digit_base → b < digit_base → c < digit_base → digits a b c < three_digits
 digits_below i j k = omega arith
@@ -128,17 +126,3 @@ module _ (m : Model) (ok : Lawful m) where
             ≡ guard_holds (edge_of m e) (view m.clocks g)
         by true r = guard_opens m ok g k e _ _ refl refl true r refl
         by false r = guard_shuts m ok g k e _ _ refl refl false r refl
-
--- one word more
-pub words_more : {m : Model} {words : List ℕ} {e x : ℕ} → WordsBelow m e words → e < m.edges → x ≡ edge_word m e
-    → WordsBelow m (e + 1) (set words e x)
-words_more {m} {words} {e} {x} f h r = record { room = omega (arith, length-set words e x, f.room); are = λ k l. by k l (dec_lt k e) }
-  where
-    by : (k : ℕ) → k < e + 1 → Dec (k < e) → get_or (set words e x) k 0 ≡ edge_word m k
-    by k l (yes d) = get_or-set_other words e k x 0 (λ q. omega arith) ∙ f.are k d
-    by k l (no d) =
-        let s : k ≡ e = omega (arith, d) in
-        rw s (get_or-set_same words e x 0 (omega (arith, f.room)) ∙ r)
-
-pub words_none : {m : Model} {words : List ℕ} → m.edges ≤ length words → WordsBelow m 0 words
-words_none h = record { room = h; are = λ e l. absurd (omega arith) }

@@ -1,4 +1,4 @@
 -- Sizes of what is lent.
 pub mod Lent
 -- Arrays that the tables of a model fit.
-pub mod Frames
+pub mod Arrays

@@ -6,6 +6,7 @@ ghost use Rattle.printing.specs.Text.{Writes};
 ghost use Rattle.tolerance.specs.Margin.{margin_text};
 
 use drift::Tolerance;
+use limits::refusal::Refusal;
 use printing::{line, refuse};
 use reading::read_full;
 use std::io;
@@ -14,15 +15,15 @@ use std::io::Write;
 // The longest plan takes 762 bytes, so any longer input is refused within these, and no other refusal is lost.
 const INPUT: usize = 4096;
 
-fn show<W: Write>(to: &mut W, found: Tolerance) -> io::Result<()>
+fn show<W: Write>(to: &mut W, found: Result<Tolerance, Refusal>) -> io::Result<()>
     ensures { Writes (W.contents to.old) (W.contents to.new) result (margin_text found) }
 {
     match found {
-        Tolerance::Bound(states, margin) => {
-            line(to, b"states ", states as u64)?;
-            line(to, b"margin ", margin as u64)
+        Ok(bound) => {
+            line(to, b"states ", bound.states as u64)?;
+            line(to, b"margin ", bound.margin as u64)
         }
-        Tolerance::Refused(number) => refuse(to, number),
+        Err(r) => refuse(to, r.code()),
     }
 }
 

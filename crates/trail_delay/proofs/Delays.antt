@@ -1,6 +1,6 @@
 -- The numbers of the moves of our trail, move by move.
 use mathlib.Core.Path.{◌≡◌, refl, ap, ap₂, subst, ◌∙◌}
-use mathlib.Core.Bool.{Bool, true, false}
+use mathlib.Core.Bool.{Bool, true}
 use mathlib.Core.List.{List, ◌∷◌}
 use Prim.Native.Nat.{ℕ, ◌+◌, ◌*◌, ◌≤◌, ◌<◌}
 use native.Mathlib.Nat.{zero-add}
@@ -15,8 +15,8 @@ use Rattle.theory.specs.StateGraph.{region_of, labelled_of}
 use Rattle.theory.specs.System.{on_closed_walk}
 use Rattle.theory.specs.Marked.{step, unsafe}
 use Rattle.theory.specs.Trail.{trail_states}
-use Rattle.theory.specs.Labels.{label_kind, least_label, labels_along, closed_walk_labels}
-use Rattle.theory.specs.Replay.{touch_to, our_move, moves_along, our_moves}
+use Rattle.theory.specs.Labels.{label_kind, labels_along, closed_walk_labels}
+use Rattle.theory.specs.Replay.{flow_by, face_to, touch_to, our_move, moves_along, our_moves}
 use Rattle.region.specs.declared.Region.{Region}
 use Rattle.region.specs.View.{view, Known}
 use Rattle.region.proofs.Views.{top_view}
@@ -29,7 +29,7 @@ use Rattle.graph.proofs.States.{clocks_of, ceiling_of}
 use Rattle.robust.specs.Delay.{jump_count, turns_base, turns_rate, move_base, move_rate, trail_base, trail_rate}
 use Rattle.closed_walk.specs.Closes.{Closes}
 use Rattle.trail_writer.specs.Lent.{WalkRoom, LeadsThrough}
-use Rattle.trail_writer.proofs.Moves.{size_few, count_few, nodes_are, flow_is, face_to_is, touch_is, leads_next, trail_few, trail_leads}
+use Rattle.trail_writer.proofs.Moves.{size_few, count_few, nodes_are, leads_next, trail_few, trail_leads}
 use Rattle.trail_delay.specs.declared.Delay.{Delay}
 use Rattle.trail_delay.specs.Ours.{max_move_jumps, FewJumps, move_delay, delay_of, our_delay}
 use Rattle.trail_delay.proofs.Sums.{Additive, sum_next, sum_done}
@@ -66,20 +66,13 @@ module _ (m : Model) (ok : Lawful m) where
 
   -- ---- a move, by its kind
 
-  module _ (p q : ℕ) where
-    pub flow_delay : (x k : ℕ) → x ≡ least_label (labelled_of_model m) p q → x ≤ m.edges → k ≡ label_kind x
-        → delay k 0 ≡ move_delay m (our_move (labelled_of_model m) p q)
-    unfolding move_delay move_base move_rate
-    flow_delay x k e h f = rw (flow_is m ok p q x e h, f) refl
+  pub flow_delay : (x k : ℕ) → k ≡ label_kind x → delay k 0 ≡ move_delay m (flow_by x)
+  unfolding move_delay move_base move_rate
+  flow_delay x k f = rw f refl
 
-    module _ (h : m.edges < least_label (labelled_of_model m) p q) where
-      pub face-delay : (system_of_model m).face p q ≡ true → delay 0 0 ≡ move_delay m (our_move (labelled_of_model m) p q)
-      unfolding move_delay move_base move_rate
-      face-delay f = rw (face_to_is m ok p q h f) refl
-
-      pub other_delay : (d : Delay) → (system_of_model m).face p q ≡ false → d ≡ move_delay m (touch_to q (closed_walk_labels (labelled_of_model m) q))
-          → d ≡ move_delay m (our_move (labelled_of_model m) p q)
-      other_delay d f e = rw (touch_is m ok p q h f) e
+  pub face-delay : (q : ℕ) → delay 0 0 ≡ move_delay m (face_to q)
+  unfolding move_delay move_base move_rate
+  face-delay q = refl
 
 -- ---- the trail: i of the path's states are passed, p is the last of them
 

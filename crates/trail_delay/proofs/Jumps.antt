@@ -1,7 +1,7 @@
 -- The jumps of a walk, and the turns of a touch.
 use mathlib.Core.Path.{◌≡◌, refl}
 use mathlib.Core.List.{List}
-use Prim.Native.Nat.{ℕ, zero, suc, ◌+◌, ◌*◌, ◌≤◌, ◌<◌}
+use Prim.Native.Nat.{ℕ, ◌+◌, ◌*◌, ◌≤◌, ◌<◌}
 use native.Mathlib.Nat.{mul-le-mul}
 use native.Mathlib.Omega.{arith}
 use lib.ListN.{length, get_or, drop}
@@ -10,18 +10,6 @@ use Rattle.limits.specs.Limits.{max_clocks, max_states}
 use Rattle.robust.specs.Delay.{jump_count}
 use Rattle.trail_delay.specs.Ours.{max_move_jumps}
 use Rattle.trail_delay.proofs.Sums.{Additive, sum_next, sum_done}
-
--- ---- a label
-
-pub time_none : (x : ℕ) → x ≡ 0 → 0 ≡ label_kind x
-unfolding label_kind
-time_none zero e = refl
-time_none (suc x) e = absurd (omega arith)
-
-pub jump_one : (x : ℕ) → (x ≡ 0 → ⊥) → 1 ≡ label_kind x
-unfolding label_kind
-jump_one zero h = absurd (h refl)
-jump_one (suc x) h = refl
 
 -- ---- a walk: i of its states are passed, p is the last of them
 

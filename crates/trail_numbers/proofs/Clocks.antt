@@ -7,9 +7,9 @@ use Rattle.evidence_number.specs.Evidence.{read_evidence}
 use Rattle.region.specs.Limits.{Clocks}
 use Rattle.region.proofs.Views.{three as clock_cases}
 use Rattle.trail_numbers.specs.Numbers.{numbers_at}
-use Rattle.trail_numbers.specs.Steps.{three_of}
-use Rattle.number.specs.declared.Number.TheVariants as number
-use Rattle.trail_numbers.specs.declared.Three.TheVariants as three
+use Rattle.trail_numbers.specs.Three.{three_of}
+use Rattle.number.specs.Number as number
+use Rattle.trail_numbers.specs.Three as three
 
 module _ (bs : List ℕ) (at n : ℕ) (k : Clocks n) where
   pub three_none : (r : ℕ) → read_evidence bs at ≡ number.Refused r → three.Refused r ≡ three_of (numbers_at bs n at)
@@ -47,3 +47,6 @@ module _ (bs : List ℕ) (at n : ℕ) (k : Clocks n) where
       three_all h c end g =
           clock_cases (λ n. 3 ≤ n → three.Numbers a b c end ≡ three_of (numbers_at bs n at))
           (λ h. absurd (omega arith)) (λ h. absurd (omega arith)) (λ h. simp (e, f, g)) n k h
+
+-- the ways through a reading of three
+pub ruleset three_read = (three_none, three_one, three_no_second, three_two, three_no_third, three_all)

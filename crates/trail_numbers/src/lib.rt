@@ -1,13 +1,14 @@
 // The numbers of a trail's steps, each judged by 1, 2 and 15 as it is read.
 #![tactic(auto)]
 
-ghost use Rattle.std.specs.Prelude.{◌≡◌};
+ghost use Rattle.std.specs.Prelude.{◌≡◌, ℕ};
 ghost use Rattle.region.specs.Limits.{Clocks};
-ghost use Rattle.trail_numbers.specs.Numbers.{label_at, numbers_at};
-ghost use Rattle.trail_numbers.specs.Steps.{three_refusal, step_refusal, three_of, capped, jump_at, region_at, step_at};
+ghost use Rattle.trail_numbers.specs.Numbers.{numbered_label, label_at, numbers_at};
+ghost use Rattle.trail_numbers.specs.Steps.{numbered_step, step_with, capped, jump_at, region_at, step_at};
+ghost use Rattle.trail_numbers.specs.Three.{numbered_three, three_of};
 
 use evidence_number::read;
-use limits::refusal::TRAIL_STEP;
+use limits::refusal::Refusal;
 use number::Number;
 use region::Region;
 
@@ -20,85 +21,56 @@ pub enum Step {
     Touch(Region),
 }
 
-// Up to three numbers and the offset after them, or the refusal.
-#[derive(Clone, Copy)]
-enum Three {
-    Numbers(u32, u32, u32, usize),
-    Refused(u8),
+// A step of a walk: time, or the jump along an edge.
+#[derive(Clone, Copy, Debug, PartialEq, Eq)]
+pub enum Label {
+    Time,
+    Jump(u32),
 }
 
-// A step and the offset after it, or the refusal.
-#[derive(Clone, Copy)]
-pub enum Reading {
-    Read(Step, usize),
-    Refused(u8),
-}
-
-fn three_refusal(t: Three) -> u8
-    ensures { result ≡ three_refusal t }
-{
-    match t {
-        Three::Numbers(_, _, _, _) => 0,
-        Three::Refused(r) => r,
-    }
-}
-
-pub fn step_refusal(s: Reading) -> u8
-    ensures { result ≡ step_refusal s }
-{
-    match s {
-        Reading::Read(_, _) => 0,
-        Reading::Refused(r) => r,
-    }
-}
-
-// As many numbers as there are clocks; 0 for the others.
-fn read_three(bytes: &[u8], at: usize, clocks: u8) -> Three
+// As many numbers as there are clocks, 0 for the others, and the offset after them.
+#[tactic(auto, using(crate::proofs::Clocks::three_read))]
+fn read_three(bytes: &[u8], at: usize, clocks: u8) -> Result<(u32, u32, u32, usize), Refusal>
     requires { Clocks clocks }
-    ensures { result ≡ three_of (numbers_at bytes.now clocks at) }
+    ensures { numbered_three result ≡ three_of (numbers_at bytes.now clocks at) }
 {
     let first = read(bytes, at);
     let Number::Value(a, p) = first else {
-        return Three::Refused(number::refusal_of(first));
+        return Err(first.refusal());
     };
     if clocks < 2 {
-        return Three::Numbers(a, 0, 0, p);
+        return Ok((a, 0, 0, p));
     }
     let second = read(bytes, p);
     let Number::Value(b, q) = second else {
-        return Three::Refused(number::refusal_of(second));
+        return Err(second.refusal());
     };
     if clocks < 3 {
-        return Three::Numbers(a, b, 0, q);
+        return Ok((a, b, 0, q));
     }
     let third = read(bytes, q);
     let Number::Value(c, end) = third else {
-        return Three::Refused(number::refusal_of(third));
+        return Err(third.refusal());
     };
-    Three::Numbers(a, b, c, end)
+    Ok((a, b, c, end))
 }
 
 // A number that a byte can't hold is kept as 255: no region has either.
 fn kept(v: u32) -> u8
     ensures { result ≡ capped v }
 {
-    if v < 255 { v as u8 } else { 255 }
+    v.min(255) as u8
 }
 
-// A face or a touch: its region, all whole parts and then all ranks.
-fn read_region(bytes: &[u8], at: usize, clocks: u8, kind: u32) -> Reading
+// A face's or a touch's region, all whole parts and then all ranks.
+#[tactic(auto, unfolding(crate::specs::Steps::region_at))]
+fn read_region(bytes: &[u8], at: usize, clocks: u8) -> Result<(Region, usize), Refusal>
     requires { Clocks clocks }
-    ensures { result ≡ region_at clocks bytes.now kind at }
+    ensures { (kind : ℕ) → numbered_step (step_with kind result) ≡ region_at clocks bytes.now kind at }
 {
-    let wholes = read_three(bytes, at, clocks);
-    let Three::Numbers(a, b, c, p) = wholes else {
-        return Reading::Refused(three_refusal(wholes));
-    };
-    let ranks = read_three(bytes, p, clocks);
-    let Three::Numbers(d, e, f, q) = ranks else {
-        return Reading::Refused(three_refusal(ranks));
-    };
-    let g = Region {
+    let (a, b, c, p) = read_three(bytes, at, clocks)?;
+    let (d, e, f, q) = read_three(bytes, p, clocks)?;
+    let region = Region {
         w1: kept(a),
         w2: kept(b),
         w3: kept(c),
@@ -106,60 +78,63 @@ fn read_region(bytes: &[u8], at: usize, clocks: u8, kind: u32) -> Reading
         r2: kept(e),
         r3: kept(f),
     };
-    if kind == 2 {
-        return Reading::Read(Step::Face(g), q);
-    }
-    Reading::Read(Step::Touch(g), q)
+    Ok((region, q))
 }
 
-fn read_jump(bytes: &[u8], at: usize) -> Reading
-    ensures { result ≡ jump_at bytes.now at }
+#[tactic(auto, unfolding(crate::specs::Steps::jump_at))]
+fn read_jump(bytes: &[u8], at: usize) -> Result<(Step, usize), Refusal>
+    ensures { numbered_step result ≡ jump_at bytes.now at }
 {
     let got = read(bytes, at);
     let Number::Value(e, p) = got else {
-        return Reading::Refused(number::refusal_of(got));
+        return Err(got.refusal());
     };
-    Reading::Read(Step::Jump(e), p)
+    Ok((Step::Jump(e), p))
 }
 
 // A step of the trail, all but a touch's walk.
-pub fn read_step(bytes: &[u8], at: usize, clocks: u8) -> Reading
+#[tactic(auto, unfolding(crate::specs::Steps::step_at))]
+pub fn read_step(bytes: &[u8], at: usize, clocks: u8) -> Result<(Step, usize), Refusal>
     requires { Clocks clocks }
-    ensures { result ≡ step_at clocks bytes.now at }
+    ensures { numbered_step result ≡ step_at clocks bytes.now at }
 {
     let got = read(bytes, at);
     let Number::Value(kind, p) = got else {
-        return Reading::Refused(number::refusal_of(got));
+        return Err(got.refusal());
     };
-    if kind == 0 {
-        return Reading::Read(Step::Time, p);
+    match kind {
+        0 => Ok((Step::Time, p)),
+        1 => read_jump(bytes, p),
+        2 => {
+            let (region, end) = read_region(bytes, p, clocks)?;
+            Ok((Step::Face(region), end))
+        }
+        3 => {
+            let (region, end) = read_region(bytes, p, clocks)?;
+            Ok((Step::Touch(region), end))
+        }
+        _ => Err(Refusal::TrailStep),
     }
-    if kind == 1 {
-        return read_jump(bytes, p);
-    }
-    if 3 < kind {
-        return Reading::Refused(TRAIL_STEP);
-    }
-    read_region(bytes, p, clocks, kind)
 }
 
-// The label of a step of a walk: 0 for time, e + 1 for the jump along edge e.
-pub fn read_label(bytes: &[u8], at: usize) -> Number
-    ensures { result ≡ label_at bytes.now at }
+// The label of a step of a walk.
+#[tactic(auto, unfolding(crate::specs::Numbers::label_at))]
+pub fn read_label(bytes: &[u8], at: usize) -> Result<(Label, usize), Refusal>
+    ensures { numbered_label result ≡ label_at bytes.now at }
 {
     let got = read(bytes, at);
     let Number::Value(kind, p) = got else {
-        return got;
+        return Err(got.refusal());
     };
-    if kind == 0 {
-        return Number::Value(0, p);
+    match kind {
+        0 => Ok((Label::Time, p)),
+        1 => {
+            let edge = read(bytes, p);
+            let Number::Value(e, end) = edge else {
+                return Err(edge.refusal());
+            };
+            Ok((Label::Jump(e), end))
+        }
+        _ => Err(Refusal::TrailStep),
     }
-    if 1 < kind {
-        return Number::Refused(TRAIL_STEP);
-    }
-    let edge = read(bytes, p);
-    let Number::Value(e, end) = edge else {
-        return edge;
-    };
-    Number::Value(e + 1, end)
 }

@@ -3,15 +3,18 @@ use mathlib.Core.Logic.{◌⊎◌, inl, inr, ⊎_elim}
 use mathlib.Core.Path.{◌≡◌}
 use mathlib.Core.Bool.{Bool}
 use mathlib.Core.List.{List}
-use Prim.Native.Nat.{ℕ, ◌*◌, ◌/◌, ◌%◌}
-use lib.ListN.{get_or}
-use Rattle.shapes.specs.Layout.{corners_in}
+use Prim.Native.Nat.{ℕ, ◌+◌, ◌*◌, ◌/◌, ◌%◌}
+use lib.ListN.{length, get_or}
+use Rattle.shapes.specs.Layout.{rows_in, faces_in, corners_in}
 use Rattle.theory.specs.Adjacency.{Adjacent}
+use Rattle.theory.proofs.Rows.{rows_length}
+use Rattle.search.specs.Queue.{InList, row_of}
+use Rattle.search.proofs.Rows.{part_in, part_out}
 use Rattle.search.specs.Least.{LeastOf, At}
-use Rattle.search.proofs.Scan.{partly_first, partly_turn, partly_end}
+use Rattle.search.proofs.Scan.{partly_first, partly_turn, partly_end, least_same}
 use Rattle.marking.specs.Tables.{RegionTables, Successor, to_successor}
 use Rattle.marking.specs.Corners.{Touches}
-use Rattle.marking.proofs.Leading.{FacesOf, face_part, touch_part, lead_parts}
+use Rattle.marking.proofs.Leading.{FacesOf, region_below, face_part, touch_part, lead_parts}
 
 pub leads_least : {touch : Bool} {S R : ℕ} {first targets shapes heights distance : List ℕ} → RegionTables touch S R shapes heights
     → (p : ℕ) {y n a b c : ℕ}
@@ -30,3 +33,15 @@ leads_least {touch} {S} {R} {first} {targets} {shapes} {heights} {distance} Z p 
         → FacesOf R shapes (p / R * R) (p % R) q ⊎ Touches (corners_in R shapes) heights (p / R * R) (p % R) 0 q
         → At distance y (FacesOf R shapes (p / R * R) (p % R)) q ⊎ At distance y (Touches (corners_in R shapes) heights (p / R * R) (p % R) 0) q
     later q e s = ⊎_elim (λ t. inl (record { has = e; is = t })) (λ t. inr (record { has = e; is = t })) s
+
+-- the faces stand in a row of the tables
+pub faces_least : {touch : Bool} {S R : ℕ} {shapes heights distance : List ℕ} → RegionTables touch S R shapes heights → (p : ℕ) {y a b : ℕ}
+    → LeastOf (At distance y (InList (row_of (rows_in R shapes) (faces_in R shapes) (p % R)) (p / R * R) 0
+    (length (row_of (rows_in R shapes) (faces_in R shapes) (p % R))))) a b
+    → LeastOf (At distance y (FacesOf R shapes (p / R * R) (p % R))) a b
+faces_least {R = R} {shapes = shapes} Z p A =
+    let e = rows_length Z.faces.face (p % R) (region_below Z p) in
+    let l = get_or (rows_in R shapes) (p % R) 0 in
+    let h = get_or (rows_in R shapes) (p % R + 1) 0 in
+    least_same A (λ q t. record { has = t.has; is = part_in (faces_in R shapes) l h e (λ v z. p / R * R + v ≡ z) q t.is })
+    (λ q t. record { has = t.has; is = part_out (faces_in R shapes) l h e (λ v z. p / R * R + v ≡ z) q t.is })

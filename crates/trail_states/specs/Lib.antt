@@ -2,3 +2,5 @@
 
 -- What the tables of a system tell, for the search.
 pub mod Told
+-- What the walk along the flags goes by.
+pub mod Guided

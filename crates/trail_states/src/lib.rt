@@ -1,66 +1,20 @@
 // The states of our trail: the fewest steps from the start into a forbidden location, and of those the least in state numbers.
 #![tactic(auto)]
 
-ghost use Rattle.std.specs.Prelude.{◌≡◌, Bool, ℕ, ◌*◌, ◌≤◌, ◌<◌, length, take};
-ghost use Rattle.theory.specs.Walk.{greedy};
+ghost use Rattle.std.specs.Prelude.{◌≡◌, ◌*◌, ◌≤◌, ◌<◌, length, take};
 ghost use Rattle.theory.specs.System.{System};
 ghost use Rattle.theory.specs.Trail.{trail_states};
 ghost use Rattle.search.specs.Queue.{reached_count, ByLevel};
-ghost use Rattle.search.specs.Flags.{Steered};
-ghost use Rattle.marking.specs.Tables.{SearchTables, Successor};
+ghost use Rattle.marking.specs.Tables.{SearchTables};
 ghost use Rattle.trail_states.specs.Told.{Told};
 
-use limits::{LEVEL_FLAG, Word};
+use limits::Word;
+use marking::Ways;
+use search::{Steps, count_reached, flag_all, trace};
 
-mod flags;
 mod next;
 
-use flags::flag_all;
-use next::least_next;
-
-// From the start, step after step, the least state of the next level that has the flag.
-fn follow(
-    touch: bool,
-    steps: usize,
-    start: usize,
-    regions: usize,
-    first: &[u32],
-    targets: &[Word],
-    shapes: &[Word],
-    heights: &[Word],
-    distance: &[Word],
-    path: &mut [Word],
-)
-    requires { (steps < length distance.now) × (start < length distance.now) × (steps ≤ length path.old)
-        × SearchTables touch (length distance.now) regions first.now targets.now shapes.now heights.now }
-    ensures { (r : ℕ → ℕ → Bool) (goal : ℕ → Bool)
-        → Steered (Successor regions first.now targets.now shapes.now heights.now)
-        start steps distance.now r goal
-        → take steps path.new ≡ greedy (length distance.now) r goal steps start }
-{
-    let mut p = start;
-    let mut i = 0;
-    while i < steps {
-        let q = least_next(
-            touch,
-            regions,
-            first,
-            targets,
-            shapes,
-            heights,
-            distance,
-            i + 2 + LEVEL_FLAG,
-            p,
-        );
-        // not where so many steps lead into a forbidden location
-        if q == distance.len() {
-            return;
-        }
-        path[i] = q as Word;
-        p = q;
-        i += 1;
-    }
-}
+use next::Trail;
 
 // Into `path` the states of our trail, which has `steps` steps; without `touch` there are no touch steps. `distance` has the distance of every state
 // from the start plus one; flags are put on it and taken off again. `queue` lists the marked states level by level.
@@ -85,20 +39,22 @@ pub fn trail_states(
         × ((Y : System) → Told Y steps start regions first.now targets.now shapes.now
         heights.now kind.now distance.old → take steps path.new ≡ trail_states Y) }
 {
-    flag_all(
-        touch,
-        regions,
-        first,
-        targets,
-        shapes,
-        heights,
+    let end = count_reached(distance);
+    let trail = Trail {
+        ways: Ways {
+            touch,
+            regions,
+            steps: Steps {
+                first,
+                targets,
+                nodes: distance.len(),
+            },
+            shapes,
+            heights,
+        },
         kind,
-        distance,
-        queue,
-        steps + 1,
-    );
-    follow(
-        touch, steps, start, regions, first, targets, shapes, heights, distance, path,
-    );
+    };
+    flag_all(&trail, distance, queue, end, steps + 1);
+    trace(&trail, distance, start, &mut path[..steps]);
     search::clear_flags(distance);
 }

@@ -1,5 +1,5 @@
 -- The moves of a trail, spelled part by part.
-use mathlib.Core.Path.{◌≡◌, refl, sym, ap, subst, ◌∙◌}
+use mathlib.Core.Path.{◌≡◌, refl, sym, ap, ap₂, subst, ◌∙◌}
 use mathlib.Core.Bool.{Bool, true, false}
 use mathlib.Core.List.{List, [], ◌∷◌, ◌++◌, append_assoc, append-nil}
 use Prim.Native.Nat.{ℕ, zero, suc, ◌+◌, ◌*◌, ◌%◌, ◌≤◌, ◌<◌}
@@ -13,7 +13,7 @@ use Rattle.graph.proofs.Plan.{labels_are, start_at, size-states}
 use Rattle.limits.specs.Limits.{max_clocks, max_states}
 use Rattle.theory.specs.Adjacency.{Holds}
 use Rattle.theory.specs.Walk.{Walk, stop, move, Inside, exact, dist⁺}
-use Rattle.theory.specs.Region.{Clock, wholes, face, regions}
+use Rattle.theory.specs.Region.{Clock, wholes, face}
 use Rattle.theory.specs.Enumeration.{ranks, key}
 use Rattle.theory.specs.StateGraph.{region_count, region_of, beside, system_of, labelled_of}
 use Rattle.theory.specs.System.{System, Laws, OnClosedWalkIn, on_closed_walk}
@@ -139,10 +139,6 @@ module _ (m : Model) (ok : Lawful m) where
     unfolding our_move
     flow_is x e h = rw (e, lt-ltb (least_label P p q) P.labels (omega (arith, labels_are m))) refl
 
-    pub flow_as : (x : ℕ) → x ≡ least_label P p q → x ≤ m.edges → spell_all (label_numbers x) ≡ spell_all (move_numbers (automaton_of m) (our_move P p q))
-    unfolding move_numbers
-    flow_as x e h = rw (flow_is x e h) refl
-
     pub face_is : beside (automaton_of m) m.locations face p q ≡ Y.face p q
     unfolding system_of
     face_is = refl
@@ -155,11 +151,6 @@ module _ (m : Model) (ok : Lawful m) where
       unfolding our_move labelled_of
       face_to_is f = rw (none_leads, f) refl
 
-      pub face_bytes : Y.face p q ≡ true
-          → spell 2 ++ spell_all (key (region_of (automaton_of m) q)) ≡ spell_all (move_numbers (automaton_of m) (our_move P p q))
-      unfolding move_numbers spell_all
-      face_bytes f = rw (face_to_is f) refl
-
       pub touch_is : Y.face p q ≡ false → our_move P p q ≡ touch_to q (closed_walk_labels P q)
       unfolding our_move labelled_of
       touch_is f = rw (none_leads, f) refl
@@ -170,6 +161,16 @@ module _ (m : Model) (ok : Lawful m) where
       touched t f =
           let n : Y.flow p q ≡ false = false_unless_true (Y.flow p q) (λ e. absurd (omega (arith, flow_label P (labelled_laws m ok) p q e, labels_are m))) in
           and_right (Y.near p q) (on_closed_walk Y q) (rw (n, f) at t)
+
+  -- ---- its bytes
+
+  pub flow_bytes : (x : ℕ) → spell_all (label_numbers x) ≡ spell_all (move_numbers (automaton_of m) (flow_by x))
+  unfolding move_numbers
+  flow_bytes x = refl
+
+  pub face_bytes : (q : ℕ) → spell 2 ++ spell_all (key (region_of (automaton_of m) q)) ≡ spell_all (move_numbers (automaton_of m) (face_to q))
+  unfolding move_numbers spell_all
+  face_bytes q = refl
 
   -- ---- moves one after the other
 
@@ -331,12 +332,12 @@ module _ (m : Model) (ok : Lawful m) where
 
   -- ---- where it starts
 
-  module _ (n : ℕ) (e : n ≡ length (regions m.clocks m.ceiling)) where
-    pub start_is : m.start * n ≡ Y.start
+  module _ (s n : ℕ) (f : s ≡ m.start) (e : n ≡ region_count (automaton_of m)) where
+    pub start_is : s * n ≡ Y.start
     unfolding automaton_of region_count
-    start_is = ap (λ (k : ℕ). m.start * k) e ∙ sym (start_at m)
+    start_is = ap₂ ◌*◌ f e ∙ sym (start_at m)
 
-    pub start_fits : m.start * n < max_states
+    pub start_fits : s * n < max_states
     start_fits = omega (arith, start_is, trail_start)
 
   pub trail_as : (start : ℕ) (path : List ℕ) → start ≡ Y.start

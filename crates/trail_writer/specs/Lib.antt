@@ -4,3 +4,5 @@
 pub mod Lent
 -- The numbers of a trail by its states.
 pub mod Path
+-- A step by its kind.
+pub mod Move

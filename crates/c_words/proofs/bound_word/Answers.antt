@@ -1,6 +1,10 @@
 -- `c_words::bound_word` meets its contract.
 use mathlib.Core.Path.{sym, ap, subst, ◌∙◌}
+use Prim.Native.Nat.{ℕ}
 use native.Mathlib.Omega.{arith}
+use mathlib.Core.List.{[]}
+use Rattle.std.specs.Prelude.{Result, Ok}
+use Rattle.limits.specs.declared.refusal.Refusal.{Refusal}
 use Rattle.op_sheet_margin.specs.declared.Bound.{Bound}
 use Rattle.op_sheet_margin.specs.SheetMargin.{bound_answer}
 use Rattle.c_words.specs.Words.{judge_word, Fields}
@@ -8,21 +12,18 @@ use Rattle.c_words.proofs.Words.{verdict_fields, verdict_word_is, refused_word_i
 use Rattle.c_words.proofs.bound_word.Goals as goal
 
 pub verdict_word-requires : goal.verdict_word-requires
-unfolding bound_answer
-verdict_word-requires c = verdict_fields 0 _ _ (omega arith) (subst (λ (b : Bound). Fields (bound_answer b)) c.in-Safe.is c.requires)
+verdict_word-requires c = verdict_fields 0 _ _ (omega arith) (subst (λ (x : Result Bound Refusal). Fields (bound_answer x)) (c.in-Ok-Safe.is ∙ ap Ok (rw c.in-Ok-Safe.is at c.in-Ok-Safe.field-0-is)) c.requires)
 
-pub verdict_word-requires-in-Unsafe : goal.verdict_word-requires-in-Unsafe
-unfolding bound_answer
-verdict_word-requires-in-Unsafe c = verdict_fields 1 _ _ (omega arith) (subst (λ (b : Bound). Fields (bound_answer b)) c.in-Unsafe.is c.requires)
+pub returns-in-Ok-Safe : goal.returns-in-Ok-Safe
+returns-in-Ok-Safe c =
+    verdict_word_is _ 0 _ _ c.verdict_word.ensures ∙ ap (λ (x : Result Bound Refusal). judge_word (bound_answer x)) (sym (c.in-Ok-Safe.is ∙ ap Ok (rw c.in-Ok-Safe.is at c.in-Ok-Safe.field-0-is)))
 
-pub returns-in-Safe : goal.returns-in-Safe
-unfolding bound_answer
-returns-in-Safe c = verdict_word_is _ 0 _ _ c.verdict_word.ensures ∙ ap (λ (b : Bound). judge_word (bound_answer b)) (sym c.in-Safe.is)
+pub verdict_word-requires-in-Ok-Unsafe : goal.verdict_word-requires-in-Ok-Unsafe
+verdict_word-requires-in-Ok-Unsafe c = verdict_fields 1 _ _ (omega arith) (subst (λ (x : Result Bound Refusal). Fields (bound_answer x)) (c.in-Ok-Unsafe.is ∙ ap Ok (rw c.in-Ok-Unsafe.is at c.in-Ok-Unsafe.field-0-is)) c.requires)
 
-pub returns-in-Unsafe : goal.returns-in-Unsafe
-unfolding bound_answer
-returns-in-Unsafe c = verdict_word_is _ 1 _ _ c.verdict_word-in-Unsafe.ensures ∙ ap (λ (b : Bound). judge_word (bound_answer b)) (sym c.in-Unsafe.is)
+pub returns-in-Ok-Unsafe : goal.returns-in-Ok-Unsafe
+returns-in-Ok-Unsafe c =
+    verdict_word_is _ 1 _ _ c.verdict_word-in-Ok-Unsafe.ensures ∙ ap (λ (x : Result Bound Refusal). judge_word (bound_answer x)) (sym (c.in-Ok-Unsafe.is ∙ ap Ok (rw c.in-Ok-Unsafe.is at c.in-Ok-Unsafe.field-0-is)))
 
-pub returns-in-Refused : goal.returns-in-Refused
-unfolding bound_answer
-returns-in-Refused c = refused_word_is _ ∙ ap (λ (b : Bound). judge_word (bound_answer b)) (sym c.in-Refused.is)
+pub returns-in-Err : goal.returns-in-Err
+returns-in-Err c = refused_word_is _ ∙ ap (λ (n : ℕ). judge_word (record { number = n; values = [] })) c.code.ensures ∙ ap (λ (x : Result Bound Refusal). judge_word (bound_answer x)) (sym c.in-Err.is)

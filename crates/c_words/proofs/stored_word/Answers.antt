@@ -1,20 +1,21 @@
 -- `c_words::stored_word` meets its contract.
-use mathlib.Core.Path.{sym, ap, subst, ◌∙◌}
-use native.Mathlib.Omega.{arith}
-use Rattle.spelling.specs.declared.Stored.{Stored}
+use Prim.Native.Nat.{ℕ, ◌^◌, ◌≤◌}
+use mathlib.Core.Path.{◌≡◌, refl, sym, ap, subst, ◌∙◌}
+use Rattle.std.specs.Prelude.{Result, Ok, Err}
+use Rattle.limits.specs.declared.refusal.Refusal.{Refusal}
+use Rattle.number.specs.Answer.{Answer}
+use Rattle.call.specs.Answered.{answered}
 use Rattle.spelling.specs.Calls.{stored_answer}
-use Rattle.c_words.specs.Words.{count_word, StoredFit}
-use Rattle.c_words.proofs.Words.{count_word_is, count_refused_is}
+use Rattle.c_words.specs.Words.{value, only, count_word}
 use Rattle.c_words.proofs.stored_word.Goals as goal
 
-pub overflow_mul-result : goal.overflow_mul-result
+same : (x : Result ℕ Refusal) → answered only x ≡ stored_answer x
 unfolding stored_answer
-overflow_mul-result c = let f = subst (λ (j : Stored). StoredFit (stored_answer j)) c.in-Bytes.is c.requires in omega (arith, f.few)
+same (Ok n) = refl
+same (Err r) = refl
 
-pub returns-in-Bytes : goal.returns-in-Bytes
-unfolding stored_answer
-returns-in-Bytes c = count_word_is _ ∙ ap (λ (j : Stored). count_word (stored_answer j)) (sym c.in-Bytes.is)
+pub count_word-requires : goal.count_word-requires
+count_word-requires c = subst (λ (a : Answer). value a 0 ≤ 2 ^ 40) (sym (same c.args.answer)) c.requires.few
 
-pub returns-in-Refused : goal.returns-in-Refused
-unfolding stored_answer
-returns-in-Refused c = count_refused_is _ ∙ ap (λ (j : Stored). count_word (stored_answer j)) (sym c.in-Refused.is)
+pub returns : goal.returns
+returns c = c.count_word.ensures ∙ ap (λ (a : Answer). count_word a) (same c.args.answer)

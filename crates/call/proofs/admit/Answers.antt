@@ -1,28 +1,19 @@
 -- `call::admit` meets its contract.
-use native.Mathlib.Omega.{arith}
-use mathlib.Core.Path.{sym, ◌∙◌}
-use Rattle.plan_reader.proofs.Accepted.{reading_lawful}
-use Rattle.call.proofs.Calls.{by_bytes, by_scratch, by_none}
+use mathlib.Core.Path.{sym, ap, ◌∙◌}
+use mathlib.Core.Bool.{Bool, cond}
+use Rattle.call.proofs.Calls.{passed_number, refused_read, measured}
 use Rattle.call.proofs.admit.Goals as goal
 
-pub returns-then-refusal-ne0 : goal.returns-then-refusal-ne0
-returns-then-refusal-ne0 c =
-    let read = c.read_model-read in
-    by_bytes _ _ read.result read.ensures c.if-refusal-ne0.true
+pub returns-in_err-plan-clause-refused : goal.returns-in_err-plan-clause-refused
+returns-in_err-plan-clause-refused c =
+    passed_number _ _ c.from_residual.ensures.1 ∙ sym (refused_read _ _ c.in_err-plan.field-0.0 c.in_err-plan.ensures)
 
-pub state_count-s-requires : goal.state_count-s-requires
-state_count-s-requires c =
-    let read = c.read_model-read in
-    reading_lawful _ read.result read.ensures (omega arith)
+pub returns-then-is_enough-clause-refused : goal.returns-then-is_enough-clause-refused
+returns-then-is_enough-clause-refused c =
+    sym (measured _ _ c.in_ok-plan.plan c.in_ok-plan.ensures _ c.state_count-states.ensures
+    ∙ ap (λ (b : Bool). cond b 0 8) (sym c.is_enough.ensures ∙ c.if-is_enough.true))
 
-pub returns-then-is_enough : goal.returns-then-is_enough
-returns-then-is_enough c =
-    let read = c.read_model-read in
-    let count = c.state_count-s in
-    by_none _ _ read.result read.ensures count.result count.ensures (omega arith) (sym c.is_enough.ensures ∙ c.if-is_enough.true)
-
-pub returns : goal.returns
-returns c =
-    let read = c.read_model-read in
-    let count = c.state_count-s in
-    by_scratch _ _ read.result read.ensures count.result count.ensures (omega arith) (sym c.is_enough.ensures ∙ c.if-is_enough.false)
+pub returns-clause-refused : goal.returns-clause-refused
+returns-clause-refused c =
+    sym (measured _ _ c.in_ok-plan.plan c.in_ok-plan.ensures _ c.state_count-states.ensures
+    ∙ ap (λ (b : Bool). cond b 0 8) (sym c.is_enough.ensures ∙ c.if-is_enough.false))

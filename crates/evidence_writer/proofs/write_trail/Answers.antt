@@ -8,13 +8,13 @@ use Rattle.evidence_writer.proofs.write_trail.Goals as goal
 
 pub put_trail-need-requires : goal.put_trail-need-requires
 put_trail-need-requires c =
-    let goes = trail_goes c.args.touch c.args.m c.requires.0.lawful c.requires.1 c.args.path.now c.requires.2 in
+    let goes = trail_goes c.args.touch c.args.space.now.plan.now.model c.requires.0.lawful c.requires.1 c.args.path.now c.requires.2 in
     (c.requires.0, goes.0, goes.1)
 
 pub put_trail-requires : goal.put_trail-requires
 put_trail-requires c =
     let R = c.requires.0 in
-    let goes = trail_goes c.args.touch c.args.m R.lawful c.requires.1 c.args.path.now c.requires.2 in
+    let goes = trail_goes c.args.touch c.args.space.now.plan.now.model R.lawful c.requires.1 c.args.path.now c.requires.2 in
     let kept = c.put_trail-need.auto in (
       record {
         lawful = R.lawful;
@@ -30,7 +30,7 @@ put_trail-requires c =
 
 pub returns-then-need-out : goal.returns-then-need-out
 returns-then-need-out c =
-    let m = c.args.m in
+    let m = c.args.space.now.plan.now.model in
     let touch = c.args.touch in
     let is = trail_is touch m c.requires.0.lawful c.requires.1 c.args.path.now c.requires.2 in
     let measure = c.put_trail-need.ensures in
@@ -39,7 +39,7 @@ returns-then-need-out c =
 
 pub returns-else-need-out : goal.returns-else-need-out
 returns-else-need-out c =
-    let m = c.args.m in
+    let m = c.args.space.now.plan.now.model in
     let touch = c.args.touch in
     let is = trail_is touch m c.requires.0.lawful c.requires.1 c.args.path.now c.requires.2 in
     let measure = c.put_trail-need.ensures in

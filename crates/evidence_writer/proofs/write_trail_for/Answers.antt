@@ -9,12 +9,12 @@ use Rattle.evidence_writer.proofs.Verdict.{distance_long, unsafe_by, trail_asked
 use Rattle.evidence_writer.proofs.write_trail_for.Goals as goal
 
 pub overflow_mul-start : goal.overflow_mul-start
-overflow_mul-start c = rw c.from_byte.ensures (omega (arith, start_product c.args.m c.requires.searched.lawful c.args.r c.requires.r_value.0))
+overflow_mul-start c = rw c.from.ensures (omega (arith, start_product c.args.space.now.plan.now.model c.requires.searched.lawful c.args.r c.requires.r_value.0))
 
 pub trail_states-requires : goal.trail_states-requires
 trail_states-requires c =
     let K = c.requires.searched in
-    rw c.from_byte.ensures (trail_asked K c.args.r c.requires.r_value.0 c.args.steps c.requires.r_value.2)
+    rw c.from.ensures (trail_asked K c.args.r c.requires.r_value.0 c.args.steps c.requires.r_value.2)
 
 pub slice_bounds-write_trail-end : goal.slice_bounds-write_trail-end
 slice_bounds-write_trail-end c =
@@ -41,5 +41,5 @@ write_trail-requires c =
         walk_long = K.queue_long;
       },
       unsafe_by K c.args.steps s c.requires.r_value.2,
-      states.ensures.1 (with_touch c.args.touch (system_of_model c.args.m)) (rw c.from_byte.ensures (trail_told K c.args.r e c.args.steps s)),
+      states.ensures.1 (with_touch c.args.touch (system_of_model c.args.space.now.plan.now.model)) (rw c.from.ensures (trail_told K c.args.r e c.args.steps s)),
     )

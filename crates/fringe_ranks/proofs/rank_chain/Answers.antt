@@ -1,14 +1,14 @@
 -- `fringe_ranks::rank_chain` meets its contract. The invariant: the states of height h without their ranks stand on the chain from `link`, which falls.
 use native.Mathlib.Omega.{arith}
 use Prim.Native.Nat.{suc, ◌-◌}
-use mathlib.Core.Path.{◌≡◌, sym, ◌∙◌}
+use mathlib.Core.Path.{◌≡◌}
 use Rattle.fringe_ranks.proofs.Along.{along_start, along_long, along_end, along_link, along_state, along_below, along_turn}
 use Rattle.fringe_ranks.proofs.rank_chain.Goals as goal
 
 pub loop-link-init : goal.loop-link-init
 loop-link-init c =
     let (A, C, b, U) = c.requires in
-    rw c.from_word-link.ensures (along_start A C b U)
+    rw c.from-link.ensures (along_start A C b U)
 
 pub offset_bounds-links-p : goal.offset_bounds-links-p
 offset_bounds-links-p c =
@@ -32,16 +32,13 @@ pub loop-link-smaller : goal.loop-link-smaller
 loop-link-smaller c =
     let l = c.loop-link in
     let e : l.link ≡ suc (l.link - 1) = omega arith in
-    omega (arith, c.from_word-link-in-loop-link.ensures, (along_link l.invariant (l.link - 1) e).1)
+    omega (arith, c.from-link-in-loop-link.ensures, (along_link l.invariant (l.link - 1) e).1)
 
 pub loop-link-preserved : goal.loop-link-preserved
 loop-link-preserved c =
     let l = c.loop-link in
     let e : l.link ≡ suc (l.link - 1) = omega arith in
-    rw c.from_word-link-in-loop-link.ensures (along_turn l.invariant (l.link - 1) e c.rank_state-entries.ensures)
-
-pub shape_of-ranks : goal.shape_of-ranks
-shape_of-ranks c = along_long c.loop-link.invariant ∙ sym c.requires.3.long
+    rw c.from-link-in-loop-link.ensures (along_turn l.invariant (l.link - 1) e c.rank_state-entries.ensures)
 
 pub returns : goal.returns
 returns c = along_end c.loop-link.invariant (omega arith)

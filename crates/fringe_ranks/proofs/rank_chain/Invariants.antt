@@ -3,7 +3,7 @@ use Rattle.fringe_ranks.proofs.Along.{Along}
 use Rattle.fringe_ranks.proofs.rank_chain.Given as goal
 
 abbrev pub invariant-loop-link : goal.invariant-loop-link
-invariant-loop-link l = Along l.m l.sheet l.links l.h l.ranks l.entries l.link
+invariant-loop-link l = Along l.space.plan.now.model l.sheet l.links l.h l.ranks l.entries l.link
 
 abbrev pub decreases-loop-link : goal.decreases-loop-link
 decreases-loop-link l = l.link

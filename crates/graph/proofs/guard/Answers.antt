@@ -5,14 +5,17 @@ use Rattle.graph.proofs.guard.Goals as goal
 
 pub returns-then-attains : goal.returns-then-attains
 returns-then-attains c =
+    let plan = c.args.plan.now in
     c.fits.ensures
-    ∙ guard_opens c.args.m c.requires.0 c.args.g c.requires.2 c.args.e c.counted.result
+    ∙ guard_opens plan.model plan.lawful c.args.g c.requires.1 c.args.e c.counted.result
     c.counted-2.result
     c.counted.ensures c.counted-2.ensures c.attains.result c.attains.ensures
     c.if-attains.true
 
-pub returns : goal.returns
-returns c =
-    guard_shuts c.args.m c.requires.0 c.args.g c.requires.2 c.args.e c.counted.result
+pub returns-else-attains : goal.returns-else-attains
+returns-else-attains c =
+    let plan = c.args.plan.now in
+    c.if-attains.false
+    ∙ guard_shuts plan.model plan.lawful c.args.g c.requires.1 c.args.e c.counted.result
     c.counted-2.result
     c.counted.ensures c.counted-2.ensures c.attains.result c.attains.ensures c.if-attains.false

@@ -6,4 +6,6 @@ use Rattle.graph.proofs.stays.Goals as goal
 
 pub returns : goal.returns
 unfolding automaton_of
-returns c = c.fits.ensures ∙ fits_three c.args.m c.requires.0 c.args.g c.requires.2 c.args.m.invariant c.args.l
+returns c =
+    let plan = c.args.plan.now in
+    c.fits.ensures ∙ fits_three plan.model plan.lawful c.args.g c.requires.1 plan.model.invariant c.args.l

@@ -1,8 +1,9 @@
 -- What three prints write is what they write one after the other, or a front of it where one fails.
-use Rattle.std.proofs.Common.{◌≡◌, ℕ, List, [], ◌∷◌, ◌++◌, Result, IsErr, codes, refl, sym, subst}
+use Rattle.std.proofs.Common.{◌≡◌, ℕ, List, [], ◌∷◌, ◌++◌, Result, Ok, IsErr, codes, refl, sym, subst, ap, ◌∙◌}
 use Rattle.std.specs.declared.option.Option.{Option}
 use Rattle.std.specs.Io.KnownBytes.{Appends}
 use Rattle.std.proofs.KnownBytes.{Appends-trans}
+use Rattle.limits.specs.declared.refusal.Refusal.{Refusal}
 use Rattle.op_judge.specs.declared.Judgement.{Judgement}
 use Rattle.op_judge.specs.declared.Judgement.TheVariants.{Safe, Unsafe}
 use Rattle.printing.specs.Text.{AppendsFront, Writes, line_text}
@@ -10,7 +11,7 @@ use Rattle.printing.proofs.Writes.{writes_then, behind, cut, failed, same_text}
 use Rattle.judge.specs.Verdict.{verdict_text}
 use Rattle.judge.proofs.show.Goals as goal
 
-module _ {T E : Type 0} (r : Result T E) (first second third : List ℕ) (f g : Judgement) (is : f ≡ g) (whole : verdict_text g ≡ (first ++ second) ++ third) where
+module _ {T E : Type 0} (r : Result T E) (first second third : List ℕ) (f g : Result Judgement Refusal) (is : f ≡ g) (whole : verdict_text g ≡ (first ++ second) ++ third) where
   first_fails : (a b : Option (List ℕ)) → IsErr r → AppendsFront a b first → Writes a b r (verdict_text f)
   first_fails a b failure p = same_text verdict_text f g is a b r (subst (Writes a b r) (sym whole) (failed a b _ r failure (cut a b _ _ (cut a b _ _ p))))
 
@@ -20,36 +21,36 @@ module _ {T E : Type 0} (r : Result T E) (first second third : List ℕ) (f g : 
   all_told : (a b c d : Option (List ℕ)) → Appends a b first → Appends b c second → Writes c d r third → Writes a d r (verdict_text f)
   all_told a b c d p q s = same_text verdict_text f g is a d r (subst (Writes a d r) (sym whole) (writes_then a c d _ _ r (Appends-trans a b c _ _ p q) s))
 
-pub returns-in_err-say-in-Safe : goal.returns-in_err-say-in-Safe
-returns-in_err-say-in-Safe g c =
-    let w = c.in-Safe in
-    first_fails c.from_residual.result (codes "verdict safe" ++ 10 ∷ []) (line_text (codes "states ") w.states) (line_text (codes "in ") w.count) c.args.found (Safe w.states w.count) w.is refl _ _ c.from_residual.ensures.0 c.in_err-say-in-Safe.ensures
+pub returns-in_err-say-in-Ok-Safe : goal.returns-in_err-say-in-Ok-Safe
+returns-in_err-say-in-Ok-Safe g c =
+    let w = c.in-Ok-Safe in
+    first_fails c.from_residual.result (codes "verdict safe" ++ 10 ∷ []) (line_text (codes "states ") w.states) (line_text (codes "in ") w.count) c.args.found (Ok (Safe w.states w.count)) (w.is ∙ ap Ok (rw w.is at w.field-0-is)) refl _ _ c.from_residual.ensures.0 c.in_err-say-in-Ok-Safe.ensures
 
-pub returns-in_err-line-in-Safe : goal.returns-in_err-line-in-Safe
-returns-in_err-line-in-Safe g c =
-    let w = c.in-Safe in
-    second_fails c.from_residual-in_err-line-in-Safe.result (codes "verdict safe" ++ 10 ∷ []) (line_text (codes "states ") w.states) (line_text (codes "in ") w.count) c.args.found (Safe w.states w.count) w.is refl _ _ _ c.from_residual-in_err-line-in-Safe.ensures.0 c.in_ok-say-in-Safe.ensures
-    c.in_err-line-in-Safe.ensures
+pub returns-in_err-line-in-Ok-Safe : goal.returns-in_err-line-in-Ok-Safe
+returns-in_err-line-in-Ok-Safe g c =
+    let w = c.in-Ok-Safe in
+    second_fails c.from_residual-in_err-line-in-Ok-Safe.result (codes "verdict safe" ++ 10 ∷ []) (line_text (codes "states ") w.states) (line_text (codes "in ") w.count) c.args.found (Ok (Safe w.states w.count)) (w.is ∙ ap Ok (rw w.is at w.field-0-is)) refl _ _ _ c.from_residual-in_err-line-in-Ok-Safe.ensures.0 c.in_ok-say-in-Ok-Safe.ensures
+    c.in_err-line-in-Ok-Safe.ensures
 
-pub returns-in_ok-line-in-Safe : goal.returns-in_ok-line-in-Safe
-returns-in_ok-line-in-Safe g c =
-    let w = c.in-Safe in
-    all_told c.line-in-Safe.result (codes "verdict safe" ++ 10 ∷ []) (line_text (codes "states ") w.states) (line_text (codes "in ") w.count) c.args.found (Safe w.states w.count) w.is refl _ _ _ _ c.in_ok-say-in-Safe.ensures
-    c.in_ok-line-in-Safe.ensures c.line-in-Safe.ensures
+pub returns-in_ok-line-in-Ok-Safe : goal.returns-in_ok-line-in-Ok-Safe
+returns-in_ok-line-in-Ok-Safe g c =
+    let w = c.in-Ok-Safe in
+    all_told c.line-in-Ok-Safe.result (codes "verdict safe" ++ 10 ∷ []) (line_text (codes "states ") w.states) (line_text (codes "in ") w.count) c.args.found (Ok (Safe w.states w.count)) (w.is ∙ ap Ok (rw w.is at w.field-0-is)) refl _ _ _ _ c.in_ok-say-in-Ok-Safe.ensures
+    c.in_ok-line-in-Ok-Safe.ensures c.line-in-Ok-Safe.ensures
 
-pub returns-in_err-say-in-Unsafe : goal.returns-in_err-say-in-Unsafe
-returns-in_err-say-in-Unsafe g c =
-    let w = c.in-Unsafe in
-    first_fails c.from_residual-in_err-say-in-Unsafe.result (codes "verdict unsafe" ++ 10 ∷ []) (line_text (codes "states ") w.states) (line_text (codes "steps ") w.count) c.args.found (Unsafe w.states w.count) w.is refl _ _ c.from_residual-in_err-say-in-Unsafe.ensures.0 c.in_err-say-in-Unsafe.ensures
+pub returns-in_err-say-in-Ok-Unsafe : goal.returns-in_err-say-in-Ok-Unsafe
+returns-in_err-say-in-Ok-Unsafe g c =
+    let w = c.in-Ok-Unsafe in
+    first_fails c.from_residual-in_err-say-in-Ok-Unsafe.result (codes "verdict unsafe" ++ 10 ∷ []) (line_text (codes "states ") w.states) (line_text (codes "steps ") w.count) c.args.found (Ok (Unsafe w.states w.count)) (w.is ∙ ap Ok (rw w.is at w.field-0-is)) refl _ _ c.from_residual-in_err-say-in-Ok-Unsafe.ensures.0 c.in_err-say-in-Ok-Unsafe.ensures
 
-pub returns-in_err-line-in-Unsafe : goal.returns-in_err-line-in-Unsafe
-returns-in_err-line-in-Unsafe g c =
-    let w = c.in-Unsafe in
-    second_fails c.from_residual-in_err-line-in-Unsafe.result (codes "verdict unsafe" ++ 10 ∷ []) (line_text (codes "states ") w.states) (line_text (codes "steps ") w.count) c.args.found (Unsafe w.states w.count) w.is refl _ _ _ c.from_residual-in_err-line-in-Unsafe.ensures.0 c.in_ok-say-in-Unsafe.ensures
-    c.in_err-line-in-Unsafe.ensures
+pub returns-in_err-line-in-Ok-Unsafe : goal.returns-in_err-line-in-Ok-Unsafe
+returns-in_err-line-in-Ok-Unsafe g c =
+    let w = c.in-Ok-Unsafe in
+    second_fails c.from_residual-in_err-line-in-Ok-Unsafe.result (codes "verdict unsafe" ++ 10 ∷ []) (line_text (codes "states ") w.states) (line_text (codes "steps ") w.count) c.args.found (Ok (Unsafe w.states w.count)) (w.is ∙ ap Ok (rw w.is at w.field-0-is)) refl _ _ _ c.from_residual-in_err-line-in-Ok-Unsafe.ensures.0 c.in_ok-say-in-Ok-Unsafe.ensures
+    c.in_err-line-in-Ok-Unsafe.ensures
 
-pub returns-in_ok-line-in-Unsafe : goal.returns-in_ok-line-in-Unsafe
-returns-in_ok-line-in-Unsafe g c =
-    let w = c.in-Unsafe in
-    all_told c.line-in-Unsafe-2.result (codes "verdict unsafe" ++ 10 ∷ []) (line_text (codes "states ") w.states) (line_text (codes "steps ") w.count) c.args.found (Unsafe w.states w.count) w.is refl _ _ _ _ c.in_ok-say-in-Unsafe.ensures
-    c.in_ok-line-in-Unsafe.ensures c.line-in-Unsafe-2.ensures
+pub returns-in_ok-line-in-Ok-Unsafe : goal.returns-in_ok-line-in-Ok-Unsafe
+returns-in_ok-line-in-Ok-Unsafe g c =
+    let w = c.in-Ok-Unsafe in
+    all_told c.line-in-Ok-Unsafe-2.result (codes "verdict unsafe" ++ 10 ∷ []) (line_text (codes "states ") w.states) (line_text (codes "steps ") w.count) c.args.found (Ok (Unsafe w.states w.count)) (w.is ∙ ap Ok (rw w.is at w.field-0-is)) refl _ _ _ _ c.in_ok-say-in-Ok-Unsafe.ensures
+    c.in_ok-line-in-Ok-Unsafe.ensures c.line-in-Ok-Unsafe-2.ensures

@@ -1,32 +1,25 @@
--- `least_time::least` meets its contract. The invariant: d is the least time among the states passed.
+-- `least_time::least` meets its contract. The invariant: the least time among the states passed.
 use native.Mathlib.Omega.{arith}
+use Prim.Native.Nat.{◌*◌, ◌/◌}
 use lib.ListN.{length, get_or}
-use Rattle.least_time.proofs.Location.{fewest_start, fewest_place, fewest_rest}
+use lib.Dec.{eqb}
+use Rattle.search.proofs.Lowest.{least_none, least_more, least_rest}
+use Rattle.least_time.proofs.Location.{in_location, before_none, after_none}
 use Rattle.least_time.proofs.least.Goals as goal
 
 pub loop-p-init : goal.loop-p-init
-loop-p-init c = (
-  omega arith,
-  omega arith,
-  omega arith,
-  fewest_start (length c.args.level.now) c.args.regions c.args.location c.requires.0 (λ q. get_or c.args.level.now q 0),
-)
+loop-p-init c =
+    let a = c.args in
+    least_none (λ q. eqb (q / a.regions) a.location) (λ q. get_or a.level.now q 0) (a.location * a.regions) (before_none a.regions a.location c.requires.0)
 
 pub loop-p-preserved : goal.loop-p-preserved
 loop-p-preserved c =
+    let a = c.args in
     let l = c.loop-p in
-    let w = c.lower-d in (
-      omega arith,
-      omega arith,
-      omega (arith, w.ensures.less),
-      fewest_place (length c.args.level.now) c.args.regions c.args.location c.requires.0 (λ q. get_or c.args.level.now q 0)
-          l.p l.d w.result l.invariant.0 (omega arith) (omega arith) l.invariant.3 w.ensures,
-    )
+    rw c.lower_distance-best.ensures (least_more (λ q. eqb (q / a.regions) a.location) (λ q. get_or a.level.now q 0) l.p (in_location a.regions a.location c.requires.0 l.p (omega arith) (omega arith)) l.invariant)
 
 pub returns : goal.returns
 returns c =
-    let l = c.loop-p in (
-      l.invariant.2,
-      fewest_rest (length c.args.level.now) c.args.regions c.args.location c.requires.0 (λ q. get_or c.args.level.now q 0)
-          l.p l.d (omega arith) l.invariant.3,
-    )
+    let a = c.args in
+    let l = c.loop-p in
+    least_rest (λ q. eqb (q / a.regions) a.location) (λ q. get_or a.level.now q 0) l.p (length a.level.now) (omega arith) (λ p h b g. after_none a.regions a.location c.requires.0 l.p p (omega arith) h g) l.invariant

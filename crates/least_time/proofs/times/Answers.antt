@@ -2,84 +2,73 @@
 use native.Mathlib.Omega.{arith}
 use Prim.Native.Nat.{◌*◌}
 use mathlib.Core.Path.{◌≡◌, refl, sym, ◌∙◌}
-use lib.ListN.{length, length-set}
+use lib.ListN.{length, replicate}
+use Rattle.std.proofs.Common.{rules}
 use Rattle.graph.specs.Plan.{labelled_of_model}
 use Rattle.limits.proofs.Zeros.{zero_at}
-use Rattle.search.proofs.Queue.{fits_le, takes_queue}
+use Rattle.search.proofs.Queue.{fits_le}
+use Rattle.search.proofs.Rounds.{fits_none}
 use Rattle.least_time.proofs.Models.{joined, size_is, start_is, start_room}
 use Rattle.least_time.proofs.Searching.{searched_first, searched_next, searched_end}
 use Rattle.least_time.proofs.times.Goals as goal
 
 pub overflow_mul-start : goal.overflow_mul-start
-overflow_mul-start c = omega (arith, start_room c.args.m c.requires.lawful.0 c.args.table.now c.requires.lawful.1 _ c.from_byte.ensures, c.requires.level_len, c.clear.auto.a)
+overflow_mul-start c =
+    let s = c.args.space.now in
+    omega (arith, start_room s.plan.now.model s.plan.now.lawful s.table.now s.listed _ c.from.ensures)
 
-pub offset_bounds-level-start : goal.offset_bounds-level-start
-offset_bounds-level-start c = omega (arith, start_room c.args.m c.requires.lawful.0 c.args.table.now c.requires.lawful.1 _ c.from_byte.ensures, c.requires.level_len, c.clear.auto.a)
-
-pub bounds-level-start : goal.bounds-level-start
-bounds-level-start c = omega (arith, start_room c.args.m c.requires.lawful.0 c.args.table.now c.requires.lawful.1 _ c.from_byte.ensures, c.requires.level_len, c.clear.auto.a)
-
-pub overflow_cast-queue : goal.overflow_cast-queue
-overflow_cast-queue c = omega (arith, start_room c.args.m c.requires.lawful.0 c.args.table.now c.requires.lawful.1 _ c.from_byte.ensures, c.requires.level_len, c.clear.auto.a)
-
-pub bounds-queue-0 : goal.bounds-queue-0
-bounds-queue-0 c = omega (arith, start_room c.args.m c.requires.lawful.0 c.args.table.now c.requires.lawful.1 _ c.from_byte.ensures, c.requires.level_len, c.clear.auto.a)
+pub take-requires : goal.take-requires
+take-requires c =
+    let s = c.args.space.now in
+    let z : c.fill.new.self ≡ replicate (length c.args.level.now) 0 = search rules in
+    let k = c.fill.ensures.len in
+    let (b, h) = start_room s.plan.now.model s.plan.now.lawful s.table.now s.listed _ c.from.ensures in
+    (omega arith, omega (arith, c.requires.0), fits_none c.fill.new.self c.args.queue.now (zero_at (length c.args.level.now) z) (omega (arith, c.requires.0)) (omega (arith, c.requires.0, c.requires.1)))
 
 pub loop-lo-init : goal.loop-lo-init
 loop-lo-init c =
-    let f = c.clear in
-    let e = f.auto.a in
-    let (b, h) = start_room c.args.m c.requires.lawful.0 c.args.table.now c.requires.lawful.1 _ c.from_byte.ensures in
-    let n : c.from_byte.result * length c.args.table.now ≡ c.args.m.start * length c.args.table.now = rw c.from_byte.ensures refl in (
-      refl,
-      refl,
-      searched_first (labelled_of_model c.args.m) f.new.a c.args.queue.now (zero_at (length c.args.level.now) f.ensures)
-          (omega (arith, c.requires.level_len.0)) (c.requires.level_len.1 ∙ sym c.requires.level_len.0 ∙ sym e) (e ∙ c.requires.level_len.0 ∙ sym (size_is c.args.m))
-          (c.from_byte.result * length c.args.table.now) (start_is c.args.m c.requires.lawful.0 c.args.table.now c.requires.lawful.1 ∙ sym n)
-          (omega (arith, c.requires.level_len.0)),
+    let s = c.args.space.now in
+    let m = s.plan.now.model in
+    let z : c.fill.new.self ≡ replicate (length c.args.level.now) 0 = search rules in
+    let n : c.from.result * length s.table.now ≡ m.start * length s.table.now = rw c.from.ensures refl in (
+      record { level = refl; queue = refl },
+      searched_first (labelled_of_model m) (zero_at (length c.args.level.now) z) (c.fill.ensures.len ∙ c.requires.0 ∙ sym (size_is m))
+          (start_is m s.plan.now.lawful s.table.now s.listed ∙ sym n) c.take.ensures.takes,
     )
 
-pub close-end-requires : goal.close-end-requires
-close-end-requires c =
-    let I = c.loop-lo.invariant.2 in record { lawful = (c.requires.lawful.0, c.requires.lawful.1); level_len = (I.size ∙ size_is c.args.m, omega (arith, fits_le I.fits, I.fits.limit, I.ends.0), I.ends.1, I.fits, I.at) }
+pub close-requires : goal.close-requires
+close-requires c =
+    let I = c.loop-lo.invariant.1 in
+    (I.size ∙ size_is c.args.space.now.plan.now.model, omega (arith, fits_le I.fits, I.fits.limit, I.ends.0), I.ends.1, I.fits, I.at)
 
 pub overflow_add-y : goal.overflow_add-y
-overflow_add-y c = let I = c.loop-lo.invariant.2 in omega (arith, fits_le I.fits, I.fits.limit, I.ends.0)
+overflow_add-y c = let I = c.loop-lo.invariant.1 in omega (arith, fits_le I.fits, I.fits.limit, I.ends.0)
 
-pub wait-hi-requires : goal.wait-hi-requires
-wait-hi-requires c =
-    let I = c.loop-lo.invariant.2 in
-    let C = c.close-end.ensures in record {
-      lawful = (c.requires.lawful.0, c.requires.lawful.1);
-      level_len = (
-        C.takes.long ∙ I.size ∙ size_is c.args.m,
-        omega (arith, fits_le I.fits, I.fits.limit, I.ends.0),
-        omega (arith, C.takes.more, I.ends.1),
-        C.takes.fits,
-      );
+pub round-requires : goal.round-requires
+round-requires c =
+    let I = c.loop-lo.invariant.1 in
+    let C = c.close.ensures.closes in record {
+      states = (omega (arith, fits_le I.fits, I.fits.limit, I.ends.0), omega (arith, C.takes.more, I.ends.1), C.takes.fits);
+      marks = C.takes.long ∙ I.size ∙ size_is c.args.space.now.plan.now.model;
     }
 
 pub loop-lo-smaller : goal.loop-lo-smaller
 loop-lo-smaller c =
-    let l = c.loop-lo in
-    omega (arith, fits_le l.invariant.2.fits, l.invariant.0, c.close-end.ensures.takes.more)
+    let I = c.loop-lo.invariant.1 in
+    omega (arith, fits_le I.fits, I.size, c.close.ensures.closes.takes.more)
 
 pub loop-lo-preserved : goal.loop-lo-preserved
 loop-lo-preserved c =
-    let l = c.loop-lo in
-    let I = l.invariant.2 in
-    let C = c.close-end.ensures in
-    let A = c.wait-hi.ensures in (
-      A.takes.long ∙ C.takes.long ∙ l.invariant.0,
-      takes_queue A.takes C.takes.fits ∙ takes_queue C.takes I.fits ∙ l.invariant.1,
-      searched_next (joined c.args.m c.requires.lawful.0) I c.loop-lo-test.true C A,
+    let i = c.loop-lo.invariant in
+    let C = c.close.ensures in
+    let A = c.round.ensures in
+    let s = c.args.space.now in (
+      record { level = A.same.level ∙ C.same.level ∙ i.0.level; queue = A.same.queue ∙ C.same.queue ∙ i.0.queue },
+      searched_next (joined s.plan.now.model s.plan.now.lawful) i.1 c.loop-lo-test.true C.closes A.takes,
     )
 
-pub shape_of-level : goal.shape_of-level
-shape_of-level c = c.loop-lo.invariant.0 ∙ simp length-set c.clear.auto.a
-
-pub shape_of-queue : goal.shape_of-queue
-shape_of-queue c = c.loop-lo.invariant.1 ∙ simp length-set
-
 pub returns : goal.returns
-returns c = searched_end (joined c.args.m c.requires.lawful.0) c.loop-lo.invariant.2 (omega arith)
+returns c =
+    let s = c.args.space.now in
+    let h = searched_end (joined s.plan.now.model s.plan.now.lawful) c.loop-lo.invariant.1 (omega arith) in
+    search rules

@@ -7,23 +7,13 @@ use Rattle.margin.proofs.Entries.{no_edges, all_edges, one_edge}
 use Rattle.margin.proofs.entries_by.Goals as goal
 
 pub loop-e-init : goal.loop-e-init
-loop-e-init c = (
-  omega arith,
-  c.by_start-count.ensures.0 ∙ sym (no_edges c.args.m c.args.l),
-  omega (arith, c.by_start-count.ensures.1),
-)
-
-pub with_edge-count-requires : goal.with_edge-count-requires
-with_edge-count-requires c =
-    let v = c.loop-e in
-    (c.requires.0, omega (arith, v.invariant), omega (arith, v.invariant, c.requires.0.edges))
+loop-e-init c = rw c.from-e.ensures (c.by_start-count.ensures.0 ∙ sym (no_edges c.args.plan.now.model c.args.l), omega (arith, c.by_start-count.ensures.1))
 
 pub loop-e-preserved : goal.loop-e-preserved
 loop-e-preserved c =
     let v = c.loop-e in (
-      omega (arith, v.invariant),
-      one_edge c.args.m c.args.l (v.e - 1) v.e v.count c.with_edge-count.result
-          (omega arith) v.invariant.0 v.invariant.1 c.with_edge-count.ensures.0,
+      one_edge c.args.plan.now.model c.args.l (v.e - 1) v.e v.count c.with_edge-count.result
+          (omega arith) (omega (arith, v.auto.e, c.from-e.ensures)) v.invariant.0 c.with_edge-count.ensures.0,
       omega (arith, v.invariant, c.with_edge-count.ensures.1),
     )
 
@@ -31,4 +21,4 @@ pub returns : goal.returns
 returns c =
     let v = c.loop-e in
     let z : v.e ≡ 0 = omega arith in
-    v.invariant.1 ∙ rw z (all_edges c.args.m c.args.l)
+    v.invariant.0 ∙ rw z (all_edges c.args.plan.now.model c.args.l)

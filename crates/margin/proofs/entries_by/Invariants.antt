@@ -7,7 +7,4 @@ use Rattle.margin.proofs.Entries.{entries_from}
 use Rattle.margin.proofs.entries_by.Given as goal
 
 abbrev pub invariant-loop-e : goal.invariant-loop-e
-invariant-loop-e l = (l.e ≤ l.m.edges) × (l.count ≡ entries_from l.m l.l l.e) × (l.count + max_values * l.e ≤ max_values * l.m.edges + 1)
-
-abbrev pub decreases-loop-e : goal.decreases-loop-e
-decreases-loop-e l = l.e
+invariant-loop-e l = (l.count ≡ entries_from l.plan.model l.l l.e) × (l.count + max_values * l.e ≤ max_values * l.plan.model.edges + 1)

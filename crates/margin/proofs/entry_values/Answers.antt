@@ -7,7 +7,7 @@ returns c =
     let x = c.entry_limit in
     let y = c.entry_limit-2 in
     let z = c.entry_limit-3 in (
-      entry_values_are c.args.m c.requires.0 c.args.e x.result y.result z.result c.half_values.result
+      entry_values_are c.args.plan.now.model c.args.plan.now.lawful c.args.e x.result y.result z.result c.half_values.result
           x.ensures.0 y.ensures.0 z.ensures.0 c.half_values.ensures.0,
       c.half_values.ensures.1,
     )

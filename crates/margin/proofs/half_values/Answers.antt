@@ -1,13 +1,6 @@
 -- `margin::half_values` meets its contract: a product of three factors, each at most max_factor.
-use native.Mathlib.Omega.{arith}
 use Rattle.margin.proofs.Limits.{three_factors, product_most}
 use Rattle.margin.proofs.half_values.Goals as goal
-
-pub overflow_mul-result : goal.overflow_mul-result
-overflow_mul-result c = omega (arith, (product_most c.factor.ensures.1 c.factor-2.ensures.1 c.factor-3.ensures.1).0)
-
-pub overflow_mul-result-2 : goal.overflow_mul-result-2
-overflow_mul-result-2 c = omega (arith, (product_most c.factor.ensures.1 c.factor-2.ensures.1 c.factor-3.ensures.1).1)
 
 pub returns : goal.returns
 returns c =

@@ -7,7 +7,7 @@ returns c =
     let x = c.stay_limit in
     let y = c.stay_limit-2 in
     let z = c.stay_limit-3 in (
-      stay_values_are c.args.m c.requires.0 c.args.l x.result y.result z.result c.half_values.result
+      stay_values_are c.args.plan.now.model c.args.plan.now.lawful c.args.l x.result y.result z.result c.half_values.result
           x.ensures.0 y.ensures.0 z.ensures.0 c.half_values.ensures.0,
       c.half_values.ensures.1,
     )

@@ -1,80 +1,63 @@
 -- `marking::distances` meets its contract. The invariant is `Searched`: the distances below x are found. The measure: the states beyond place lo.
-use mathlib.Core.Path.{◌≡◌, refl, sym, ◌∙◌}
-use lib.ListN.{length, length-set}
+use mathlib.Core.Path.{◌≡◌, refl, ◌∙◌}
+use lib.ListN.{length, replicate}
 use native.Mathlib.Omega.{arith}
+use Rattle.std.proofs.Common.{rules}
 use Rattle.limits.proofs.Zeros.{zero_at}
 use Rattle.search.proofs.Queue.{fits_le}
-use Rattle.search.proofs.Rounds.{searched_first, searched_next}
+use Rattle.search.proofs.Rounds.{fits_none, searched_first, searched_next}
 use Rattle.marking.specs.Tables.{Successor}
 use Rattle.marking.proofs.Steps.{searched_end}
 use Rattle.marking.proofs.distances.Goals as goal
 
-pub offset_bounds-distance-start : goal.offset_bounds-distance-start
-offset_bounds-distance-start c = omega (arith, c.clear.auto.a)
-
-pub bounds-distance-start : goal.bounds-distance-start
-bounds-distance-start c = omega (arith, c.clear.auto.a)
-
-pub overflow_cast-queue : goal.overflow_cast-queue
-overflow_cast-queue c = omega (arith, c.requires.2.tables.states)
-
-pub bounds-queue-0 : goal.bounds-queue-0
-bounds-queue-0 c = omega (arith, c.requires.1)
+pub take-requires : goal.take-requires
+take-requires c =
+    let p = c.requires in
+    let e : c.fill.new.self ≡ replicate (length c.args.distance.now) 0 = search rules in
+    let k = c.fill.ensures.len in
+    (omega arith, omega arith, fits_none c.fill.new.self c.args.queue.now (zero_at (length c.args.distance.now) e) (omega (arith, p.2.tables.states)) (omega arith))
 
 pub loop-lo-init : goal.loop-lo-init
 loop-lo-init c =
-    let a = c.args in
     let p = c.requires in
-    let f = c.clear in
-    (refl, refl, refl, searched_first (Successor a.regions a.first.now a.targets.now a.shapes.now a.heights.now) f.new.a a.queue.now a.start (zero_at (length a.distance.now) f.ensures) (omega (arith, p.2.tables.states, f.auto.a)) (p.1 ∙ sym f.auto.a) (omega (arith, f.auto.a)), record { covers = λ k h. absurd (omega (arith, zero_at (length a.visited.now) c.clear_bytes.ensures k)) })
+    let e : c.fill.new.self ≡ replicate (length c.args.distance.now) 0 = search rules in
+    let d : c.fill-2.new.self ≡ replicate (length c.args.visited.now) 0 = search rules in
+    let t = c.take.ensures.takes in
+    let l : length c.take.new.self.level.now ≡ length c.args.distance.now = t.takes.long ∙ c.fill.ensures.len in (
+      record { level = refl; queue = refl },
+      record {
+        nodes = l;
+        tables = rw l p.2.tables;
+        spots = rw (l, c.fill-2.ensures.len) p.3;
+        visits = record { covers = λ k h. absurd (omega (arith, zero_at (length c.args.visited.now) d k)) };
+      },
+      searched_first (Successor c.args.regions c.args.first.now c.args.targets.now c.args.shapes.now c.args.heights.now) (zero_at (length c.args.distance.now) e) t (omega (arith, c.fill.ensures.len)),
+    )
 
-pub round-n-requires : goal.round-n-requires
-round-n-requires c =
-    let l = c.loop-lo in
-    let f : length l.distance ≡ length c.args.distance.now = l.invariant.0 ∙ simp length-set c.clear.auto.a in
-    let g : length l.visited ≡ length c.args.visited.now = l.invariant.2 ∙ c.clear_bytes.auto.a in
-    let I = l.invariant.3 in
-    (I.ends, rw f c.requires.2.flow, record { small = omega (arith, fits_le I.fits, I.fits.limit, I.early); tables = rw f c.requires.2.tables; spots = rw (f, g) c.requires.3; visits = l.invariant.4; fits = I.fits })
+pub round-requires : goal.round-requires
+round-requires c =
+    let I = c.loop-lo.invariant.2 in
+    record { states = (omega (arith, fits_le I.fits, I.fits.limit, I.early), I.ends, I.fits); marks = c.loop-lo.invariant.1 }
 
 pub overflow_add-x : goal.overflow_add-x
 overflow_add-x c =
-    let I = c.loop-lo.invariant.3 in
+    let I = c.loop-lo.invariant.2 in
     omega (arith, fits_le I.fits, I.fits.limit, I.early)
 
 pub loop-lo-smaller : goal.loop-lo-smaller
-loop-lo-smaller c = omega (arith, fits_le c.loop-lo.invariant.3.fits, c.loop-lo.invariant.0)
+loop-lo-smaller c = omega (arith, fits_le c.loop-lo.invariant.2.fits, c.loop-lo.invariant.1.nodes)
 
 pub loop-lo-preserved : goal.loop-lo-preserved
 loop-lo-preserved c =
-    let l = c.loop-lo in
-    let f : length l.distance ≡ length c.args.distance.now = l.invariant.0 ∙ simp length-set c.clear.auto.a in
-    let g : length l.visited ≡ length c.args.visited.now = l.invariant.2 ∙ c.clear_bytes.auto.a in
-    let t = c.round-n in
-    (t.auto.distance ∙ l.invariant.0, t.auto.queue ∙ l.invariant.1, t.auto.visited ∙ l.invariant.2, searched_next l.invariant.3 t.ensures.all (omega arith), t.ensures.visits)
-
-pub overflow_sub-result : goal.overflow_sub-result
-overflow_sub-result c = omega (arith, c.loop-lo.invariant.3.some)
-
-pub shape_of-distance : goal.shape_of-distance
-shape_of-distance c =
-    let l = c.loop-lo in
-    let f : length l.distance ≡ length c.args.distance.now = l.invariant.0 ∙ simp length-set c.clear.auto.a in
-    let g : length l.visited ≡ length c.args.visited.now = l.invariant.2 ∙ c.clear_bytes.auto.a in
-    f
-
-pub shape_of-queue : goal.shape_of-queue
-shape_of-queue c = c.loop-lo.invariant.1 ∙ simp length-set
-
-pub shape_of-visited : goal.shape_of-visited
-shape_of-visited c =
-    let l = c.loop-lo in
-    let f : length l.distance ≡ length c.args.distance.now = l.invariant.0 ∙ simp length-set c.clear.auto.a in
-    let g : length l.visited ≡ length c.args.visited.now = l.invariant.2 ∙ c.clear_bytes.auto.a in
-    g
+    let i = c.loop-lo.invariant in
+    let t = c.round.ensures in (
+      record { level = t.same.level ∙ i.0.level; queue = t.same.queue ∙ i.0.queue },
+      t.marks,
+      searched_next i.2 t.takes (omega arith),
+    )
 
 pub returns : goal.returns
 returns c =
-    let l = c.loop-lo in
-    let f : length l.distance ≡ length c.args.distance.now = l.invariant.0 ∙ simp length-set c.clear.auto.a in
-    let g : length l.visited ≡ length c.args.visited.now = l.invariant.2 ∙ c.clear_bytes.auto.a in
-    searched_end (rw (← f) at c.requires.2.tables) l.invariant.3 (omega arith)
+    let i = c.loop-lo.invariant in
+    let h = searched_end i.1.tables i.2 (omega arith) in
+    search rules

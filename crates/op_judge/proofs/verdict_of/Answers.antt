@@ -1,5 +1,6 @@
 -- `op_judge::verdict_of` meets its contract.
 use native.Mathlib.Omega.{arith}
+use mathlib.Core.Path.{◌∙◌}
 use lib.ListN.{length}
 use Rattle.theory.specs.WithoutTouch.{with_touch}
 use Rattle.theory.proofs.WithoutTouch.{touch_laws}
@@ -9,26 +10,30 @@ use Rattle.survey.proofs.Forbidden.{kinds, forbids_by}
 use Rattle.op_judge.proofs.Judged.{answer_unsafe, answer_safe}
 use Rattle.op_judge.proofs.verdict_of.Goals as goal
 
-pub fewest-steps-requires : goal.fewest-steps-requires
-fewest-steps-requires c = kinds c.args.m c.requires.0 c.args.touch c.args.distances.now c.count.result c.requires.1 c.count.ensures
+pub fewest-requires : goal.fewest-requires
+fewest-requires c =
+    let plan = c.args.plan.now in
+    kinds plan.model plan.lawful c.args.touch c.args.distances.now c.from.result c.requires (c.from.ensures ∙ c.count-regions.ensures)
 
-pub returns-then-steps-s : goal.returns-then-steps-s
-returns-then-steps-s c =
-    let m = c.args.m in
+pub returns-in-Some : goal.returns-in-Some
+returns-in-Some c =
+    let plan = c.args.plan.now in
+    let m = plan.model in
     let Y = with_touch c.args.touch (system_of_model m) in
-    let laws = touch_laws c.args.touch (system_of_model m) (system_laws m c.requires.0) in
-    answer_unsafe Y laws (length c.args.distances.now) c.fewest-steps.result c.requires.1.long
-    (c.fewest-steps.ensures Y laws c.requires.1
-    (forbids_by m c.requires.0 c.args.touch c.count.result c.count.ensures))
-    (omega arith)
+    let laws = touch_laws c.args.touch (system_of_model m) (system_laws m plan.lawful) in
+    let forbids = forbids_by m plan.lawful c.args.touch c.from.result (c.from.ensures ∙ c.count-regions.ensures) in
+    let found = c.in-Some.ensures in
+    answer_unsafe Y laws (length c.args.distances.now) c.in-Some.steps c.requires.long (found.value Y laws c.requires forbids)
+    (found.below Y laws c.requires forbids)
 
-pub returns : goal.returns
-returns c =
-    let m = c.args.m in
+pub returns-in-None : goal.returns-in-None
+returns-in-None c =
+    let plan = c.args.plan.now in
+    let m = plan.model in
     let Y = with_touch c.args.touch (system_of_model m) in
-    let laws = touch_laws c.args.touch (system_of_model m) (system_laws m c.requires.0) in
-    answer_safe Y laws (length c.args.distances.now) c.count_marked.result c.fewest-steps.result c.requires.1.long
-    (c.fewest-steps.ensures Y laws c.requires.1
-    (forbids_by m c.requires.0 c.args.touch c.count.result c.count.ensures))
+    let laws = touch_laws c.args.touch (system_of_model m) (system_laws m plan.lawful) in
+    let forbids = forbids_by m plan.lawful c.args.touch c.from.result (c.from.ensures ∙ c.count-regions.ensures) in
+    answer_safe Y laws (length c.args.distances.now) c.count_marked.result (length c.args.distances.now) c.requires.long
+    (c.in-None.ensures.value Y laws c.requires forbids)
     (omega arith)
-    (c.count_marked.ensures Y laws c.requires.1)
+    (c.count_marked.ensures Y laws c.requires)

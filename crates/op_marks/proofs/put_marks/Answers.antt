@@ -9,30 +9,27 @@ use Rattle.theory.specs.WithoutTouch.{with_touch}
 use Rattle.theory.proofs.WithoutTouch.{touch_laws}
 use Rattle.graph.specs.Plan.{system_of_model}
 use Rattle.graph.proofs.Models.{system_laws}
-use Rattle.op_marks.proofs.Marked.{touch_size, marks_written}
+use Rattle.op_marks.proofs.Marked.{touch_size, byte_bit, marks_written}
 use Rattle.op_marks.proofs.put_marks.Goals as goal
 
 pub loop-p-init : goal.loop-p-init
-loop-p-init c = (omega arith, refl, λ k b. absurd (omega arith))
+loop-p-init c = (refl, λ k b. absurd (omega arith))
 
 pub bounds-out-p : goal.bounds-out-p
-bounds-out-p c = omega (arith, c.loop-p.invariant.1, c.requires.2, c.requires.1.long, touch_size c.args.touch c.args.m)
+bounds-out-p c = omega (arith, c.loop-p.invariant.0, c.requires.1, c.requires.0.long, touch_size c.args.touch c.args.plan.now.model)
 
 pub loop-p-preserved : goal.loop-p-preserved
 loop-p-preserved c =
     let l = c.loop-p in (
-      omega arith,
-      simp length-set l.invariant.1,
-      stored_next (λ k. bit (ltb 0 (get_or c.args.distances.now k 0))) l.out l.p c.flag.result (omega (arith, l.invariant.1, c.loop-p-test.true, c.requires.2, c.requires.1.long, touch_size c.args.touch c.args.m)) c.flag.ensures l.invariant.2,
+      simp length-set l.invariant.0,
+      stored_next (λ k. bit (ltb 0 (get_or c.args.distances.now k 0))) l.out l.p c.from.result (omega (arith, l.invariant.0, c.requires.1, c.requires.0.long, touch_size c.args.touch c.args.plan.now.model)) (c.from.ensures ∙ byte_bit _) l.invariant.1,
     )
-
-pub shape_of-out : goal.shape_of-out
-shape_of-out c = c.loop-p.invariant.1
 
 pub returns : goal.returns
 returns c =
     let l = c.loop-p in
     let touch = c.args.touch in
-    let m = c.args.m in
-    marks_written (with_touch touch (system_of_model m)) (touch_laws touch (system_of_model m) (system_laws m c.requires.0)) l.out c.args.distances.now c.requires.1
-    (l.invariant.1 ∙ c.requires.2 ∙ sym (touch_size touch m)) (λ p b. l.invariant.2 p (omega (arith, c.requires.1.long)))
+    let plan = c.args.plan.now in
+    let m = plan.model in
+    marks_written (with_touch touch (system_of_model m)) (touch_laws touch (system_of_model m) (system_laws m plan.lawful)) l.out c.args.distances.now c.requires.0
+    (l.invariant.0 ∙ c.requires.1 ∙ sym (touch_size touch m)) (λ p b. l.invariant.1 p (omega (arith, c.requires.0.long)))

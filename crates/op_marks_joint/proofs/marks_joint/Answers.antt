@@ -1,91 +1,10 @@
 -- `op_marks_joint::marks_joint` meets its contract.
-use mathlib.Core.Path.{sym, ap, ◌∙◌}
-use lib.Seq.{length-take-le}
-use mathlib.Core.List.{[], ◌∷◌}
-use lib.ListN.{length}
-use Rattle.number.specs.Answer.{answer}
-use Rattle.model.specs.declared.Model.{Model}
-use Rattle.graph.specs.States.{states}
-use Rattle.op_marks_joint.specs.MarksJoint.{disjoint_or_short, joint_marks_in}
-use Rattle.call.proofs.Calls.{refused_by, untouched, taken, model_is, lawful, room, parts, zero_left}
-use Rattle.op_marks_joint.proofs.MarkedJoint.{marks_refused, output_alone, marks_done, output_done}
+use mathlib.Core.Path.{◌∙◌}
+use Rattle.op_marks_joint.proofs.MarkedJoint.{joint_marks_said, joint_marks_left}
 use Rattle.op_marks_joint.proofs.marks_joint.Goals as goal
 
-pub returns-then-refusal-ne0 : goal.returns-then-refusal-ne0
-returns-then-refusal-ne0 c =
-    let a = c.args in
-    let admit = c.admit-admitted in
-    let ne = c.if-refusal-ne0.true in
-    record {
-      result_value = marks_refused _ _ _ (refused_by a.bytes.now a.s1.now a.s2.now a.s3.now a.s4.now admit.result admit.ensures) ne _;
-      out_after = output_alone _ _ _ (refused_by a.bytes.now a.s1.now a.s2.now a.s3.now a.s4.now admit.result admit.ensures) ne _;
-      scratch_left = untouched a.bytes.now a.s1.now a.s2.now a.s3.now a.s4.now admit.result admit.ensures ne;
-    }
+pub returns-clause-result_value : goal.returns-clause-result_value
+returns-clause-result_value c = c.call.ensures.value ∙ joint_marks_said _ _ _
 
-pub slice_bounds-mark_joint_model-end : goal.slice_bounds-mark_joint_model-end
-slice_bounds-mark_joint_model-end c =
-    let a = c.args in
-    let admit = c.admit-admitted in
-    (room a.bytes.now a.s1.now a.s2.now a.s3.now a.s4.now admit.result admit.ensures c.if-refusal-ne0.false).0
-
-pub slice_bounds-mark_joint_model-end-2 : goal.slice_bounds-mark_joint_model-end-2
-slice_bounds-mark_joint_model-end-2 c =
-    let a = c.args in
-    let admit = c.admit-admitted in
-    sym (length-take-le _ _ (room a.bytes.now a.s1.now a.s2.now a.s3.now a.s4.now admit.result admit.ensures c.if-refusal-ne0.false).0)
-
-pub slice_bounds-mark_joint_model-end-3 : goal.slice_bounds-mark_joint_model-end-3
-slice_bounds-mark_joint_model-end-3 c =
-    let a = c.args in
-    let admit = c.admit-admitted in
-    (room a.bytes.now a.s1.now a.s2.now a.s3.now a.s4.now admit.result admit.ensures c.if-refusal-ne0.false).1
-
-pub slice_bounds-mark_joint_model-end-4 : goal.slice_bounds-mark_joint_model-end-4
-slice_bounds-mark_joint_model-end-4 c =
-    let a = c.args in
-    let admit = c.admit-admitted in
-    sym (length-take-le _ _ (room a.bytes.now a.s1.now a.s2.now a.s3.now a.s4.now admit.result admit.ensures c.if-refusal-ne0.false).1)
-
-pub slice_bounds-mark_joint_model-end-5 : goal.slice_bounds-mark_joint_model-end-5
-slice_bounds-mark_joint_model-end-5 c =
-    let a = c.args in
-    let admit = c.admit-admitted in
-    (room a.bytes.now a.s1.now a.s2.now a.s3.now a.s4.now admit.result admit.ensures c.if-refusal-ne0.false).2
-
-pub slice_bounds-mark_joint_model-end-6 : goal.slice_bounds-mark_joint_model-end-6
-slice_bounds-mark_joint_model-end-6 c =
-    let a = c.args in
-    let admit = c.admit-admitted in
-    sym (length-take-le _ _ (room a.bytes.now a.s1.now a.s2.now a.s3.now a.s4.now admit.result admit.ensures c.if-refusal-ne0.false).2)
-
-pub slice_bounds-mark_joint_model-end-7 : goal.slice_bounds-mark_joint_model-end-7
-slice_bounds-mark_joint_model-end-7 c =
-    let a = c.args in
-    let admit = c.admit-admitted in
-    (room a.bytes.now a.s1.now a.s2.now a.s3.now a.s4.now admit.result admit.ensures c.if-refusal-ne0.false).3
-
-pub slice_bounds-mark_joint_model-end-8 : goal.slice_bounds-mark_joint_model-end-8
-slice_bounds-mark_joint_model-end-8 c =
-    let a = c.args in
-    let admit = c.admit-admitted in
-    sym (length-take-le _ _ (room a.bytes.now a.s1.now a.s2.now a.s3.now a.s4.now admit.result admit.ensures c.if-refusal-ne0.false).3)
-
-pub mark_joint_model-requires : goal.mark_joint_model-requires
-mark_joint_model-requires c =
-    let a = c.args in
-    let admit = c.admit-admitted in
-    let z = c.if-refusal-ne0.false in
-    (lawful a.bytes.now a.s1.now a.s2.now a.s3.now a.s4.now admit.result admit.ensures z, parts a.bytes.now a.s1.now a.s2.now a.s3.now a.s4.now admit.result admit.ensures z)
-
-pub returns : goal.returns
-returns c =
-    let a = c.args in
-    let admit = c.admit-admitted in
-    let z = c.if-refusal-ne0.false in
-    let done = c.mark_joint_model.ensures in
-    let is = taken a.bytes.now a.s1.now a.s2.now a.s3.now a.s4.now admit.result admit.ensures z in
-    record {
-      result_value = done.result_value ∙ ap (λ (m : Model). answer (disjoint_or_short (length a.out.now) m) (states m ∷ [])) (model_is a.bytes.now a.s1.now a.s2.now a.s3.now a.s4.now admit.result admit.ensures z) ∙ sym (marks_done _ _ is _);
-      out_after = done.out_after ∙ ap (λ (m : Model). joint_marks_in m a.out.now) (model_is a.bytes.now a.s1.now a.s2.now a.s3.now a.s4.now admit.result admit.ensures z) ∙ sym (output_done _ _ is _);
-      scratch_left = zero_left a.bytes.now a.s1.now a.s2.now a.s3.now a.s4.now admit.result admit.ensures z _ _ _ _ done.zeroed;
-    }
+pub returns-clause-out_after : goal.returns-clause-out_after
+returns-clause-out_after c = c.call.ensures.out_after ∙ joint_marks_left _ _ _

@@ -1,20 +1,18 @@
 -- After e turns the first e are laid.
 use native.Mathlib.Omega.{arith}
+use mathlib.Core.List.{[]}
+use Rattle.parser.specs.Parse.{reading_of}
 use Rattle.canonical.specs.Canonical.{edge_numbers}
-use Rattle.plan_writer.proofs.Laid.{laid_none, laid_next, room_next, laid_all}
+use Rattle.plan_writer.proofs.Laid.{laid_none, laid_next, room_next}
 use Rattle.plan_writer.proofs.put_edges.Goals as goal
 
 pub loop-e-init : goal.loop-e-init
-loop-e-init c = (omega arith, laid_none (edge_numbers c.args.r) _ _)
+loop-e-init c = laid_none _ _ _
 
-pub put_edge-end-requires : goal.put_edge-end-requires
-put_edge-end-requires c = record { lawful = (c.requires.lawful, omega (arith, c.requires.lawful.edges)); e_bound = room_next (edge_numbers c.args.r) _ _ c.requires.r_bound c.loop-e.invariant.1 (omega arith) }
+pub put_edge-end-requires-clause-room : goal.put_edge-end-requires-clause-room
+put_edge-end-requires-clause-room c =
+    let r = reading_of c.args.plan.now in
+    room_next [] (edge_numbers r) r.model.edges _ c.requires c.loop-e.invariant (omega arith)
 
 pub loop-e-preserved : goal.loop-e-preserved
-loop-e-preserved c = (omega arith, laid_next (edge_numbers c.args.r) _ c.loop-e.invariant.1 c.put_edge-end.ensures)
-
-pub shape_of-out : goal.shape_of-out
-shape_of-out c = c.loop-e.invariant.1.long
-
-pub returns : goal.returns
-returns c = laid_all (edge_numbers c.args.r) _ _ c.loop-e.invariant.1 (omega arith) (omega arith)
+loop-e-preserved c = laid_next [] (edge_numbers (reading_of c.args.plan.now)) _ c.loop-e.invariant c.put_edge-end.ensures

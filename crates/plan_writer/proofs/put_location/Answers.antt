@@ -1,17 +1,23 @@
--- Its kind, then its stay fields.
+-- After x turns the kind and the first x stay fields are laid.
+use native.Mathlib.Omega.{arith}
 use mathlib.Core.List.{[], ◌∷◌}
-use mathlib.Core.Path.{◌∙◌}
-use Rattle.plan_writer.proofs.Laid.{laid_then, room_first, room_then}
+use Rattle.parser.specs.Parse.{reading_of}
+use Rattle.canonical.specs.Canonical.{stay_numbers}
+use Rattle.plan_writer.proofs.Laid.{room_first, room_same, laid_first, laid_next, room_next, spelled_same}
 use Rattle.plan_writer.proofs.put_location.Goals as goal
 
 pub put-end-requires : goal.put-end-requires
-put-end-requires c = room_first _ (_ ∷ []) _ c.requires.l_bound
+put-end-requires c = room_first _ (_ ∷ []) _ c.requires.room
 
-pub put_stays-requires : goal.put_stays-requires
-put_stays-requires c = record { lawful = c.requires.lawful; l_bound = room_then (_ ∷ []) _ c.requires.l_bound c.put-end.ensures }
+pub loop-x-init : goal.loop-x-init
+loop-x-init c = laid_first (_ ∷ []) (stay_numbers (reading_of c.args.plan.now) c.args.l) c.put-end.ensures
 
-pub shape_of-out : goal.shape_of-out
-shape_of-out c = c.put_stays.ensures.long ∙ c.put-end.ensures.long
+pub put-end-requires-in-loop-x : goal.put-end-requires-in-loop-x
+put-end-requires-in-loop-x c =
+    let f = stay_numbers (reading_of c.args.plan.now) c.args.l in
+    room_same _ _ _ (room_next (_ ∷ []) f c.args.plan.now.model.clocks _ c.requires.room c.loop-x.invariant (omega arith)) c.stay_field.ensures
 
-pub returns : goal.returns
-returns c = laid_then (_ ∷ []) _ c.put-end.ensures c.put_stays.ensures
+pub loop-x-preserved : goal.loop-x-preserved
+loop-x-preserved c =
+    let f = stay_numbers (reading_of c.args.plan.now) c.args.l in
+    laid_next (_ ∷ []) f _ c.loop-x.invariant (spelled_same c.put-end-in-loop-x.ensures c.stay_field.ensures)

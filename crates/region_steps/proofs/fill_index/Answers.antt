@@ -8,22 +8,15 @@ use Rattle.region.proofs.Known.{known_small}
 use Rattle.region_steps.proofs.Steps.{index_next}
 use Rattle.region_steps.proofs.fill_index.Goals as goal
 
-pub loop-i-init : goal.loop-i-init
-loop-i-init c = (omega arith, c.requires.3, λ j l. absurd (omega arith))
-
 pub code-at-requires : goal.code-at-requires
 code-at-requires c = known_small c.args.n c.args.ceiling c.requires.0 c.requires.1 c.region_at.result c.region_at.ensures.known
 
 pub loop-i-preserved : goal.loop-i-preserved
 loop-i-preserved c =
     let r = c.region_at in (
-      omega arith,
-      simp length-set c.loop-i.invariant.1,
+      simp length-set c.loop-i.invariant.0,
       index_next c.args.n c.args.ceiling c.requires.0 c.requires.1 c.loop-i.index c.loop-i.i c.code-at.result r.result
           (omega arith) r.ensures.known
-          (r.ensures.result_value ∙ ap (λ i. get_or (regions c.args.n c.args.ceiling) i []) c.from_short.ensures)
-          c.code-at.ensures.value c.loop-i.invariant.1 c.loop-i.invariant.2,
+          (r.ensures.result_value ∙ ap (λ i. get_or (regions c.args.n c.args.ceiling) i []) c.from.ensures)
+          c.code-at.ensures.value c.loop-i.invariant.0 c.loop-i.invariant.1,
     )
-
-pub returns : goal.returns
-returns c = record { long = c.loop-i.invariant.1; holds = λ j h. c.loop-i.invariant.2 j (omega arith) }

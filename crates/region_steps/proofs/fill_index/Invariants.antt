@@ -1,5 +1,5 @@
 -- `fill_index` meets its contract. The invariant: the numbers of the regions passed stand at their codes.
-use Prim.Native.Nat.{ℕ, ◌-◌, ◌≤◌, ◌<◌}
+use Prim.Native.Nat.{ℕ, ◌<◌}
 use mathlib.Core.Path.{◌≡◌}
 use mathlib.Core.List.{[]}
 use lib.ListN.{length, get_or}
@@ -10,9 +10,5 @@ use Rattle.region_steps.specs.Codes.{code_of}
 use Rattle.region_steps.proofs.fill_index.Given as goal
 
 abbrev pub invariant-loop-i : goal.invariant-loop-i
-invariant-loop-i l = (l.i ≤ l.count)
-    × (length l.index ≡ code_count)
+invariant-loop-i l = (length l.index ≡ code_count)
     × ((j : ℕ) → j < l.i → get_or l.index (code_of (struct_of (get_or (regions l.n l.ceiling) j []))) 0 ≡ j)
-
-abbrev pub decreases-loop-i : goal.decreases-loop-i
-decreases-loop-i l = l.count - l.i

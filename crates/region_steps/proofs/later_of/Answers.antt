@@ -1,32 +1,28 @@
 -- `later_of` meets its contract.
 use mathlib.Core.Path.{sym, ap, ◌∙◌}
 use lib.ListN.{get_or}
-use native.Mathlib.Omega.{arith}
 use Rattle.region.proofs.Known.{known_small, known_next}
 use Rattle.region_steps.proofs.Steps.{later_next, later_past}
 use Rattle.region_steps.proofs.later_of.Goals as goal
 
-pub successor-later-requires : goal.successor-later-requires
-successor-later-requires c = (c.requires.0, known_small c.args.n c.args.ceiling c.requires.0 c.requires.1 c.args.g c.requires.4)
+pub successor-requires : goal.successor-requires
+successor-requires c = (c.requires.0, known_small c.args.n c.args.ceiling c.requires.0 c.requires.1 c.args.g c.requires.4)
 
-pub returns-in_default : goal.returns-in_default
-returns-in_default c =
+pub returns-in-None : goal.returns-in-None
+returns-in-None c =
     c.requires.3
     ∙ sym (later_past c.args.n c.args.ceiling c.requires.0 c.requires.1 c.args.index.now c.requires.2 c.args.g c.requires.4
-    (sym c.successor-later.ensures ∙ c.in_default.is))
+    (sym c.successor.ensures ∙ c.in-None.is))
 
-pub code-at-requires : goal.code-at-requires
-code-at-requires c =
-    let x = c.in-Next.h in
+pub code-requires : goal.code-requires
+code-requires c =
+    let x = c.in-Some.h in
     known_small c.args.n c.args.ceiling c.requires.0 c.requires.1 x
     (known_next c.args.n c.args.ceiling c.requires.0 c.requires.1 c.args.g x c.requires.4
-    (sym c.successor-later.ensures ∙ c.in-Next.is)).0
+    (sym c.successor.ensures ∙ c.in-Some.is)).0
 
-pub bounds-index-at : goal.bounds-index-at
-bounds-index-at c = omega (arith, c.requires.2.long)
-
-pub returns : goal.returns
-returns c =
-    ap (λ p. get_or c.args.index.now p 0) c.code-at.ensures.value
+pub returns-in-Some : goal.returns-in-Some
+returns-in-Some c =
+    ap (λ p. get_or c.args.index.now p 0) c.code.ensures.value
     ∙ later_next c.args.n c.args.ceiling c.requires.0 c.requires.1 c.args.index.now c.requires.2 c.args.g c.requires.4
-    c.in-Next.h (sym c.successor-later.ensures ∙ c.in-Next.is)
+    c.in-Some.h (sym c.successor.ensures ∙ c.in-Some.is)

@@ -7,4 +7,4 @@ use Rattle.region_steps.proofs.number_of.Goals as goal
 pub returns : goal.returns
 returns c =
     let a = c.args in
-    λ n M v w. c.from_short.ensures ∙ ap (λ p. get_or a.index.now p 0) c.code-at.ensures.value ∙ indexed_at n M a.index.now v a.g w
+    λ n M v w. c.from.ensures ∙ ap (λ p. get_or a.index.now p 0) c.code.ensures.value ∙ indexed_at n M a.index.now v a.g w

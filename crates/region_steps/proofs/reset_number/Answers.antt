@@ -7,6 +7,6 @@ use Rattle.region_steps.proofs.reset_number.Goals as goal
 pub returns : goal.returns
 returns c =
     let a = c.args in
-    λ n M clocks ceiling v w. c.from_short.ensures
-    ∙ ap (λ p. get_or a.index.now p 0) c.reset_code-to.ensures.value
+    λ n M clocks ceiling v w. c.from.ensures
+    ∙ ap (λ p. get_or a.index.now p 0) c.reset_code.ensures.value
     ∙ reset_at n M clocks ceiling a.index.now v a.g w a.mask

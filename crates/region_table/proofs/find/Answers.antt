@@ -1,17 +1,7 @@
--- `find` meets its contract: what stands at the place of p decides.
-use native.Mathlib.Omega.{arith}
-use Rattle.region_table.proofs.Lookup.{place_found, place_none}
+-- `find` meets its contract: the library's search finds a number where it stands, and no other.
+use mathlib.Core.Path.{◌∙◌}
+use Rattle.region_table.proofs.Lookup.{search_found}
 use Rattle.region_table.proofs.find.Goals as goal
 
-pub returns-then-regions-i : goal.returns-then-regions-i
-returns-then-regions-i c =
-    place_found c.args.regions.now c.args.p c.place-i.result
-    c.place-i.ensures (omega arith) c.if-regions-i.true
-
-pub returns-else-regions-i : goal.returns-else-regions-i
-returns-else-regions-i c =
-    place_none c.args.regions.now c.args.p c.place-i.result c.requires
-    c.place-i.ensures (λ h. c.if-regions-i.false)
-
-pub returns-else-i-regions : goal.returns-else-i-regions
-returns-else-i-regions c = place_none c.args.regions.now c.args.p c.place-i.result c.requires c.place-i.ensures (λ h e. omega arith)
+pub returns : goal.returns
+returns c = c.ok.ensures.value ∙ search_found c.args.regions.now c.args.p c.binary_search.result c.requires c.binary_search.ensures.position

@@ -1,24 +1,15 @@
--- `place` meets its contract: p lies between lo and hi.
-use native.Mathlib.Omega.{arith}
-use Rattle.region_table.proofs.Lookup.{bracket_start, bracket_up, bracket_down, bracket_end}
+-- `place` meets its contract: the numbers below p stand before the others.
+use Rattle.std.proofs.Common.{ltb, ltb-true, ltb-false, arith, rules}
+use Rattle.std.proofs.lemmas.List.Sorted.{IsPartitionPoint-from_clause, IsPartitionedBy-ltb}
+use Rattle.region_table.proofs.Lookup.{ascends}
 use Rattle.region_table.proofs.place.Goals as goal
 
-pub loop-lo-init : goal.loop-lo-init
-loop-lo-init c = bracket_start _ _
-
-pub loop-lo-preserved-then-regions-mid : goal.loop-lo-preserved-then-regions-mid
-loop-lo-preserved-then-regions-mid c =
-    let v = c.loop-lo.invariant in
-    let t = c.loop-lo-test.true in
-    bracket_up c.args.regions.now c.args.p c.loop-lo.lo c.loop-lo.hi _ c.requires v
-    (omega arith) (omega arith) c.if-regions-mid.true
-
-pub loop-lo-preserved : goal.loop-lo-preserved
-loop-lo-preserved c =
-    let v = c.loop-lo.invariant in
-    let t = c.loop-lo-test.true in
-    bracket_down c.args.regions.now c.args.p c.loop-lo.lo c.loop-lo.hi _ c.requires v
-    (omega arith) (omega arith) c.if-regions-mid.false
-
 pub returns : goal.returns
-returns c = bracket_end _ _ _ _ c.loop-lo.invariant c.loop-lo-test.false
+returns c =
+    let parted = IsPartitionedBy-ltb (λ x. x) _ c.args.p (ascends c.args.regions.now c.requires) in
+    let point = IsPartitionPoint-from_clause (λ x. ltb x c.args.p) _ _ c.partition_point.ensures.partitioned parted (λ a r q k. search rules) in
+    record {
+      within = c.partition_point.ensures.bound;
+      below = λ k h. ltb-true _ _ (point.0 k 0 (omega arith) h);
+      from = λ k h l. ltb-false _ _ (point.1 k 0 h l);
+    }

@@ -1,16 +1,10 @@
 -- `sheet_rules::sheet_keeps` meets its contract. The invariant: the locations passed keep the rules.
-use Prim.Native.Nat.{ℕ, ◌*◌, ◌-◌, ◌≤◌, ◌<◌}
-use mathlib.Core.Path.{◌≡◌}
+use Prim.Native.Nat.{ℕ, ◌*◌, ◌<◌}
 use lib.ListN.{get_or}
 use lib.Dec.{eqb}
 use Rattle.sheet_rules.specs.Rules.{LocationKeeps}
 use Rattle.sheet_rules.proofs.sheet_keeps.Given as goal
 
 abbrev pub invariant-loop-l : goal.invariant-loop-l
-invariant-loop-l l = (l.locations ≡ l.m.locations)
-    × (l.l ≤ l.locations)
-    × (l.base ≡ l.l * l.regions)
-    × ((k : ℕ) → k < l.l → LocationKeeps l.sheet l.first l.targets l.shapes (k * l.regions) l.regions (eqb (get_or l.m.kind k 0) 1))
-
-abbrev pub decreases-loop-l : goal.decreases-loop-l
-decreases-loop-l l = l.locations - l.l
+invariant-loop-l l =
+    (k : ℕ) → k < l.l → LocationKeeps l.sheet l.first l.targets l.shapes (k * l.regions) l.regions (eqb (get_or l.m.kind k 0) 1)

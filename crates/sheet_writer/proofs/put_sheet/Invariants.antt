@@ -1,6 +1,4 @@
 -- `sheet_writer::put_sheet` meets its contract.
-use Prim.Native.Nat.{◌-◌, ◌≤◌}
-use lib.ListN.{length}
 use Rattle.theory.specs.Below.{tab}
 use Rattle.number.specs.Number.{spell_all}
 use Rattle.spelling.specs.Lays.{Lays}
@@ -9,7 +7,4 @@ use Rattle.sheet_writer.proofs.put_sheet.Given as goal
 
 -- the number 1 stands before `end₀`
 abbrev pub invariant-loop-p : goal.invariant-loop-p
-invariant-loop-p l = (l.p ≤ length l.heights) × Lays l.initial.out l.out l.initial.end l.end (spell_all (tab l.p (found l.heights l.marks)))
-
-abbrev pub decreases-loop-p : goal.decreases-loop-p
-decreases-loop-p l = length l.heights - l.p
+invariant-loop-p l = Lays l.initial.out l.out l.initial.end l.end (spell_all (tab l.p (found l.heights l.marks)))

@@ -1,12 +1,8 @@
 -- After l turns the model is that of l rounds.
-use Prim.Native.Nat.{◌≤◌, ◌-◌}
 use mathlib.Core.Path.{◌≡◌}
 use Rattle.stay_fields.specs.Resolve.{resolved_at}
 use Rattle.model.specs.Each.{each}
 use Rattle.stay_fields.proofs.resolve_model.Given as goal
 
 abbrev pub invariant-loop-l : goal.invariant-loop-l
-invariant-loop-l l = (l.l ≤ l.count) × (l.t ≡ each l.l (resolved_at l.mark l.m) l.initial.t)
-
-abbrev pub decreases-loop-l : goal.decreases-loop-l
-decreases-loop-l l = l.count - l.l
+invariant-loop-l l = l.t ≡ each l.l (resolved_at l.mark l.m) l.initial.t

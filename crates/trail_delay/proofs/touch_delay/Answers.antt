@@ -12,7 +12,7 @@ closed_walk-count-requires c =
     let R = c.requires.0 in
     let long = R.level_long in (
       omega (arith, c.requires.1),
-      omega (arith, size_few c.args.m R.lawful),
+      omega (arith, size_few c.args.space.now.plan.now.model R.lawful),
       rw long (holds_rows R.flow.holds),
       R.queue_long ∙ sym long,
       R.walk_long ∙ sym long,
@@ -20,7 +20,7 @@ closed_walk-count-requires c =
 
 pub slice_bounds-walk_jumps-end : goal.slice_bounds-walk_jumps-end
 slice_bounds-walk_jumps-end c =
-    let m = c.args.m in
+    let m = c.args.space.now.plan.now.model in
     let q = c.args.q in
     let R = c.requires.0 in
     let ok = R.lawful in
@@ -30,7 +30,7 @@ slice_bounds-walk_jumps-end c =
 
 pub slice_bounds-walk_jumps-end-2 : goal.slice_bounds-walk_jumps-end-2
 slice_bounds-walk_jumps-end-2 c =
-    let m = c.args.m in
+    let m = c.args.space.now.plan.now.model in
     let q = c.args.q in
     let R = c.requires.0 in
     let ok = R.lawful in
@@ -40,17 +40,17 @@ slice_bounds-walk_jumps-end-2 c =
 
 pub walk_jumps-jumps-requires : goal.walk_jumps-jumps-requires
 walk_jumps-jumps-requires c =
-    let m = c.args.m in
+    let m = c.args.space.now.plan.now.model in
     let q = c.args.q in
     let R = c.requires.0 in
     let ok = R.lawful in
     let o = c.requires.2 in
     let C = c.closed_walk-count.ensures in
-    (ok, R.listed, c.requires.1, nodes_below m ok q o R C)
+    (c.requires.1, nodes_below m ok q o R C)
 
 pub turns-requires : goal.turns-requires
 turns-requires c =
-    let m = c.args.m in
+    let m = c.args.space.now.plan.now.model in
     let q = c.args.q in
     let R = c.requires.0 in
     let ok = R.lawful in
@@ -63,7 +63,7 @@ turns-requires c =
 
 pub returns : goal.returns
 returns c =
-    let m = c.args.m in
+    let m = c.args.space.now.plan.now.model in
     let q = c.args.q in
     let R = c.requires.0 in
     let ok = R.lawful in
@@ -71,7 +71,7 @@ returns c =
     let C = c.closed_walk-count.ensures in
     let g = c.region_of-g in
     let d = c.turns.ensures in record {
-      value = touch_delay m ok q _ _ _ _ d.base_value.0 d.base_value.1 (c.top_rank.ensures ∙ rank_is m ok q g.result g.ensures.0 g.ensures.1)
+      value = touch_delay m ok q _ _ _ _ d.base_value.0 d.base_value.1 (c.from.ensures ∙ c.top_rank.ensures ∙ rank_is m ok q g.result g.ensures.0 g.ensures.1)
           (c.walk_jumps-jumps.ensures.value ∙ jumps_are m ok q o R C);
       few_jumps = d.few_jumps;
     }

@@ -12,7 +12,7 @@ closed_walk-count-requires c =
     let R = c.requires.0 in
     let long = R.level_long in (
       omega (arith, c.requires.1),
-      omega (arith, size_few c.args.m R.lawful),
+      omega (arith, size_few c.args.space.now.plan.now.model R.lawful),
       rw long (holds_rows R.flow.holds),
       R.queue_long ∙ sym long,
       R.walk_long ∙ sym long,
@@ -20,7 +20,7 @@ closed_walk-count-requires c =
 
 pub put-a-requires : goal.put-a-requires
 put-a-requires c =
-    let m = c.args.m in
+    let m = c.args.space.now.plan.now.model in
     let q = c.args.q in
     let R = c.requires.0 in
     let ok = R.lawful in
@@ -30,17 +30,17 @@ put-a-requires c =
 
 pub put_region-b-requires : goal.put_region-b-requires
 put_region-b-requires c =
-    let m = c.args.m in
+    let m = c.args.space.now.plan.now.model in
     let q = c.args.q in
     let R = c.requires.0 in
     let ok = R.lawful in
     let o = c.requires.2 in
     let C = c.closed_walk-count.ensures in
-    (ok, R.listed, c.requires.1, omega (arith, touch_room m ok q o R C c.args.at _ c.requires.3, c.put-a.ensures.end))
+    (c.requires.1, omega (arith, touch_room m ok q o R C c.args.at _ c.requires.3, c.put-a.ensures.end))
 
 pub overflow_cast-count : goal.overflow_cast-count
 overflow_cast-count c =
-    let m = c.args.m in
+    let m = c.args.space.now.plan.now.model in
     let q = c.args.q in
     let R = c.requires.0 in
     let ok = R.lawful in
@@ -50,7 +50,7 @@ overflow_cast-count c =
 
 pub put-c-requires : goal.put-c-requires
 put-c-requires c =
-    let m = c.args.m in
+    let m = c.args.space.now.plan.now.model in
     let q = c.args.q in
     let R = c.requires.0 in
     let ok = R.lawful in
@@ -62,7 +62,7 @@ put-c-requires c =
 
 pub slice_bounds-put_walk-end : goal.slice_bounds-put_walk-end
 slice_bounds-put_walk-end c =
-    let m = c.args.m in
+    let m = c.args.space.now.plan.now.model in
     let q = c.args.q in
     let R = c.requires.0 in
     let ok = R.lawful in
@@ -72,7 +72,7 @@ slice_bounds-put_walk-end c =
 
 pub slice_bounds-put_walk-end-2 : goal.slice_bounds-put_walk-end-2
 slice_bounds-put_walk-end-2 c =
-    let m = c.args.m in
+    let m = c.args.space.now.plan.now.model in
     let q = c.args.q in
     let R = c.requires.0 in
     let ok = R.lawful in
@@ -82,14 +82,12 @@ slice_bounds-put_walk-end-2 c =
 
 pub put_walk-requires : goal.put_walk-requires
 put_walk-requires c =
-    let m = c.args.m in
+    let m = c.args.space.now.plan.now.model in
     let q = c.args.q in
     let R = c.requires.0 in
     let ok = R.lawful in
     let o = c.requires.2 in
     let C = c.closed_walk-count.ensures in (
-      ok,
-      R.listed,
       c.requires.1,
       nodes_below m ok q o R C,
       omega (arith, touch_room m ok q o R C c.args.at _ c.requires.3, c.put-a.ensures.end, c.put_region-b.ensures.end, c.put-c.ensures.end),
@@ -97,7 +95,7 @@ put_walk-requires c =
 
 pub returns : goal.returns
 returns c =
-    let m = c.args.m in
+    let m = c.args.space.now.plan.now.model in
     let q = c.args.q in
     let R = c.requires.0 in
     let ok = R.lawful in

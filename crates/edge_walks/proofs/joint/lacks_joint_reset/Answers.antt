@@ -6,8 +6,8 @@ use Rattle.edge_walks.proofs.Joints.{no_edges}
 use Rattle.edge_walks.proofs.joint.lacks_joint_reset.Goals as goal
 
 pub returns-then-m-eq0 : goal.returns-then-m-eq0
-returns-then-m-eq0 c = no_edges c.args.m c.requires c.if-m-eq0.true
+returns-then-m-eq0 c = no_edges c.args.m.now c.requires c.if-m-eq0.true
 
 pub returns : goal.returns
-unfolding lacks_joint_reset Rattle.edge_walks.specs.Cycle.has_cycle
+unfolding lacks_joint_reset
 returns c = c.has_cycle.ensures ∙ flagged_cycle c.partial_resets.ensures

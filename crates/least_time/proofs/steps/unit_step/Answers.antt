@@ -1,15 +1,14 @@
 -- `least_time::steps::unit_step` meets its contract.
-use mathlib.Core.Path.{sym, ◌∙◌}
-use Rattle.least_time.proofs.Leading.{unit_none, unit_state, unit_some}
+use mathlib.Core.Path.{◌≡◌, sym, ◌∙◌}
+use Rattle.std.specs.Prelude.{None}
+use Rattle.std.proofs.Common.{rules}
+use Rattle.least_time.proofs.Leading.{unit_none, unit_some}
 use Rattle.least_time.proofs.steps.unit_step.Goals as goal
 
-pub returns-in_default : goal.returns-in_default
-returns-in_default c = unit_none c.args.m c.args.p (sym c.time_step-half.ensures ∙ c.in_default.is)
-
-pub time_step-requires : goal.time_step-requires
-time_step-requires c = (c.requires.0, c.requires.1, unit_state c.args.m c.args.p c.in-To.q (sym c.time_step-half.ensures ∙ c.in-To.is))
+pub returns-in_err-half : goal.returns-in_err-half
+returns-in_err-half c = let e = unit_none c.args.space.now.plan.now.model c.args.p (sym c.time_step.ensures ∙ c.in_err-half.was) in let r : c.from_residual.result ≡ None = search rules in r ∙ e
 
 pub returns : goal.returns
 returns c =
-    unit_some c.args.m c.args.p c.in-To.q c.time_step.result
-    (sym c.time_step-half.ensures ∙ c.in-To.is) c.time_step.ensures
+    unit_some c.args.space.now.plan.now.model c.args.p c.in_ok-half.half c.time_step-2.result
+    (sym c.time_step.ensures ∙ c.in_ok-half.was) c.time_step-2.ensures

@@ -1,48 +1,36 @@
--- `marking::tally::fewest` meets its contract. The invariant: d is the least distance of a goal among the states passed.
-use Prim.Native.Nat.{◌*◌, ◌/◌, ◌<◌}
+-- `marking::tally::fewest` meets its contract. The invariant: the least distance of a goal among the states passed.
+use Prim.Native.Nat.{ℕ, ◌/◌}
 use mathlib.Core.Path.{◌≡◌}
-use native.Mathlib.Nat.{div-lt_iff_lt-mul}
+use mathlib.Core.Bool.{Bool}
+use native.Mathlib.Omega.{arith}
 use lib.ListN.{length, get_or}
 use lib.Dec.{eqb}
-use native.Mathlib.Omega.{arith}
-use Rattle.theory.proofs.Levels.{fewest_first}
-use Rattle.search.proofs.Lowest.{fewest_next}
-use Rattle.marking.proofs.LeastDistance.{fewest_end}
+use borrow.Author.Tests.{eq-eqb, ne_eqb}
+use Rattle.search.proofs.Lowest.{least_none, least_skip, least_more}
+use Rattle.marking.proofs.LeastDistance.{least_fewest, least_below}
 use Rattle.marking.proofs.tally.fewest.Goals as goal
+use Rattle.marking.proofs.tally.fewest.Goals.{then-kind-p-eq1, else-kind-p-eq1}
 
 pub loop-p-init : goal.loop-p-init
-loop-p-init c = (
-  omega arith,
-  omega arith,
-  fewest_first (length c.args.distance.now)
-      (λ y. eqb (get_or c.args.kind.now (y / c.args.regions) 0) 1)
-      (λ y. get_or c.args.distance.now y 0),
-)
-
-pub lower-d-requires : goal.lower-d-requires
-lower-d-requires c =
-    let p = c.requires in (
-      p.0,
-      omega arith,
-      (div-lt_iff_lt-mul p.0).1
-          (let h : c.loop-p.p < length
-          c.args.kind.now * c.args.regions = omega (arith, p.1) in h),
-    )
+loop-p-init c = least_none (λ y. eqb (get_or c.args.kind.now (y / c.args.regions) 0) 1) (λ y. get_or c.args.distance.now y 0) 0 (λ p l g. absurd (omega arith))
 
 pub loop-p-preserved : goal.loop-p-preserved
 loop-p-preserved c =
-    let l = c.loop-p in (
-      omega arith,
-      omega (arith, c.lower-d.ensures.less),
-      fewest_next (length c.args.distance.now)
-          (λ y. eqb (get_or c.args.kind.now
-          (y / c.args.regions) 0) 1) (λ y. get_or c.args.distance.now y 0)
-          l.p l.d c.lower-d.result (omega arith) l.invariant.2 c.lower-d.ensures,
-    )
+    let a = c.args in
+    let l = c.loop-p in
+    let forbidden : ℕ → Bool = λ y. eqb (get_or a.kind.now (y / a.regions) 0) 1 in
+    let level : ℕ → ℕ = λ y. get_or a.distance.now y 0 in
+    elim c.if-kind-p-eq1.branch [
+      | then-kind-p-eq1 w ↦ rw (w.best-is, w.lower_distance-best.ensures) (least_more forbidden level l.p (eq-eqb (get_or a.kind.now (l.p / a.regions) 0) 1 w.if-kind-p-eq1.true) l.invariant)
+      | else-kind-p-eq1 w ↦ rw w.best-is (least_skip forbidden level l.p (ne_eqb (get_or a.kind.now (l.p / a.regions) 0) 1 w.if-kind-p-eq1.false) l.invariant)
+    ]
 
 pub returns : goal.returns
 returns c =
     let a = c.args in
     let l = c.loop-p in
     let e : l.p ≡ length a.distance.now = omega arith in
-    λ Y L D K. fewest_end Y L a.regions l.d a.distance.now a.kind.now D K l.invariant.1 (rw e at l.invariant.2)
+    record {
+      value = λ Y L D K. least_fewest Y L a.regions a.distance.now a.kind.now D K (rw e at l.invariant);
+      below = λ Y L D K. least_below Y L a.regions a.distance.now a.kind.now D K (rw e at l.invariant);
+    }

@@ -2,19 +2,13 @@
 use native.Mathlib.Omega.{arith}
 use Rattle.region_table.proofs.Listed.{listed_length, listed_below}
 use Rattle.region_corners.proofs.Numbers.{at_listed, at_small}
-use Rattle.region_corners.proofs.Slots.{placed_start, placed_next, placed_end}
+use Rattle.region_corners.proofs.Slots.{placed_next, placed_end}
 use Rattle.region_corners.proofs.corners.fill_corners.Goals as goal
-
-pub loop-i-init : goal.loop-i-init
-loop-i-init c = placed_start c.requires.3
 
 pub unpack-requires : goal.unpack-requires
 unpack-requires c =
     listed_below c.args.n c.args.ceiling c.requires.0 c.requires.1 c.args.table.now c.requires.2 c.loop-i.i
     (omega arith)
-
-pub overflow_mul-i : goal.overflow_mul-i
-overflow_mul-i c = let l = c.loop-i in omega (arith, l.invariant.within, l.invariant.long)
 
 pub put_corners-requires : goal.put_corners-requires
 put_corners-requires c =

@@ -1,11 +1,6 @@
 -- `corners::fill_corners` meets its contract. The invariant: the slots of the regions passed hold their corners.
-use Prim.Native.Nat.{◌-◌}
-use lib.ListN.{length}
 use Rattle.region_corners.proofs.Slots.{Placed}
 use Rattle.region_corners.proofs.corners.fill_corners.Given as goal
 
 abbrev pub invariant-loop-i : goal.invariant-loop-i
 invariant-loop-i l = Placed l.n l.ceiling l.corner l.i
-
-abbrev pub decreases-loop-i : goal.decreases-loop-i
-decreases-loop-i l = length l.table - l.i

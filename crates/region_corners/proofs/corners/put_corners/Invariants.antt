@@ -1,11 +1,6 @@
 -- `corners::put_corners` meets its contract. The invariant: the slots passed hold corners of the region.
-use Prim.Native.Nat.{◌-◌, ◌≤◌}
-use Rattle.limits.specs.Limits.{slot_count}
 use Rattle.region_corners.specs.Corners.{CornersFrom}
 use Rattle.region_corners.proofs.corners.put_corners.Given as goal
 
 abbrev pub invariant-loop-t : goal.invariant-loop-t
-invariant-loop-t l = (l.t ≤ slot_count) × CornersFrom l.g l.s l.t l.initial.corner l.corner
-
-abbrev pub decreases-loop-t : goal.decreases-loop-t
-decreases-loop-t l = slot_count - l.t
+invariant-loop-t l = CornersFrom l.g l.s l.t l.initial.corner l.corner

@@ -9,7 +9,7 @@ use Rattle.shapes.specs.Layout.{faces_at, corners_at}
 use Rattle.region_table.proofs.Listed.{listed_length, listed_below}
 use Rattle.region_table.proofs.Counts.{regions_few}
 use Rattle.region_corners.proofs.Numbers.{At, at_listed, at_small}
-use Rattle.region_corners.proofs.FaceRows.{laid_room, laid_legal, laid_small, laid_next, laying_start, laying_next, laying_end}
+use Rattle.region_corners.proofs.FaceRows.{laid_room, laid_legal, laid_small, laid_next, laying_start, laying_next}
 use Rattle.region_corners.proofs.faces.fill_faces.Goals as goal
 use Rattle.region_corners.proofs.faces.fill_faces.Goals.{Start, After-unpack-g}
 
@@ -43,8 +43,6 @@ pub put_faces-at-requires : goal.put_faces-at-requires
 put_faces-at-requires c =
     let p = c.requires in
     let A = here (goal.at.put_faces-at-requires c).After-unpack-g in (
-      c.face_list-list.ensures,
-      c.start_list-first.ensures,
       at_small p.0 p.1 A,
       laid_room p.0 p.1 p.3 c.loop-i.invariant.laid A,
       laid_legal p.0 p.1 p.3 c.loop-i.invariant.laid A,
@@ -56,9 +54,6 @@ overflow_cast-shapes c =
     let e = c.put_faces-at.ensures in
     omega (arith, laid_small p.0 p.1 p.3 c.loop-i.invariant.laid (here (goal.at.overflow_cast-shapes c).After-unpack-g) e.value e.looked_up)
 
-pub bounds-shapes-i : goal.bounds-shapes-i
-bounds-shapes-i c = omega (arith, c.shapes-1.given.1, c.loop-i.invariant.long, (here (goal.at.bounds-shapes-i c).After-unpack-g).below)
-
 pub loop-i-preserved : goal.loop-i-preserved
 loop-i-preserved c =
     let p = c.requires in
@@ -66,11 +61,3 @@ loop-i-preserved c =
     let A = here (goal.at.loop-i-preserved c).After-unpack-g in
     laying_next q.new.faces c.loop-i.invariant A.below c.shapes-1.given.0
     (laid_next p.0 p.1 p.3 c.loop-i.invariant.laid A q.ensures.value q.ensures.looked_up)
-
-pub returns : goal.returns
-returns c =
-    let p = c.requires in
-    record {
-      long = c.loop-i.invariant.long;
-      face = laying_end p.0 p.1 p.3 c.loop-i.invariant (omega (arith, entries (goal.at.returns c).Start));
-    }

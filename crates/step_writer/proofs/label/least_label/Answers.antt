@@ -1,19 +1,16 @@
 -- No label passed so far leads there.
-use mathlib.Core.Path.{sym, ◌∙◌}
+use mathlib.Core.Path.{refl, sym, ◌∙◌}
 use native.Mathlib.Omega.{arith}
-use borrow.Author.Count.{below_more}
-use borrow.Author.Rules.{rules}
 use Rattle.step_writer.proofs.Least.{least_found, least_missing}
 use Rattle.step_writer.proofs.label.least_label.Goals as goal
 
-pub loop-x-init : goal.loop-x-init
-loop-x-init c = (search rules, search rules, λ j h. absurd (omega arith))
+pub returns-then-leads_to-clause-value : goal.returns-then-leads_to-clause-value
+returns-then-leads_to-clause-value c =
+    least_found _ _ _ 0 (omega arith) (sym c.leads_to.ensures ∙ c.if-leads_to.true) (λ j h. absurd (omega arith))
 
-pub returns-then-leads_to : goal.returns-then-leads_to
-returns-then-leads_to c = least_found _ _ _ _ (omega arith) (sym c.leads_to.ensures ∙ c.if-leads_to.true) c.loop-x.invariant.2
+pub returns-then-leads_to-2-clause-value : goal.returns-then-leads_to-2-clause-value
+returns-then-leads_to-2-clause-value c =
+    least_found _ _ _ _ (omega (arith, c.from-e-end.ensures)) (sym c.leads_to-in-loop-e.ensures ∙ c.if-leads_to-2.true) c.loop-e.invariant
 
-pub loop-x-preserved : goal.loop-x-preserved
-loop-x-preserved c = (search rules, search rules, below_more _ _ c.loop-x.invariant.2 (sym c.leads_to.ensures ∙ c.if-leads_to.false))
-
-pub returns : goal.returns
-returns c = least_missing _ _ _ _ (omega arith) c.loop-x.invariant.2
+pub returns-clause-value : goal.returns-clause-value
+returns-clause-value c = least_missing _ _ _ _ refl (λ j h. c.loop-e.invariant j (omega (arith, c.from-e-end.ensures)))

@@ -1,11 +1,7 @@
 -- No label passed so far leads there.
-use Prim.Native.Nat.{◌+◌, ◌-◌, ◌≤◌}
-use mathlib.Core.Path.{◌≡◌}
+use Prim.Native.Nat.{suc}
 use Rattle.step_writer.proofs.Least.{NoneBefore}
 use Rattle.step_writer.proofs.label.least_label.Given as goal
 
-abbrev pub invariant-loop-x : goal.invariant-loop-x
-invariant-loop-x l = (l.labels ≡ l.m.edges + 1) × (l.x ≤ l.labels) × NoneBefore l.m l.p l.q l.x
-
-abbrev pub decreases-loop-x : goal.decreases-loop-x
-decreases-loop-x l = l.labels - l.x
+abbrev pub invariant-loop-e : goal.invariant-loop-e
+invariant-loop-e l = NoneBefore l.space.plan.now.model l.p l.q (suc l.e)

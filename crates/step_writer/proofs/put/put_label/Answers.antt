@@ -2,22 +2,22 @@
 use mathlib.Core.Path.{ap}
 use lib.ListN.{length}
 use native.Mathlib.Omega.{arith}
-use borrow.Author.Rules.{rules}
 use Rattle.spelling.proofs.Lays.{lays_then, lays_as}
 use Rattle.step_writer.proofs.Written.{time_spelled, jump_spelled, jump_length}
 use Rattle.step_writer.proofs.put.put_label.Goals as goal
 
 pub put-requires : goal.put-requires
-put-requires c = (search rules, omega (arith, ap length (time_spelled _ c.if-x-eq0.true)))
+put-requires c = let r = rw c.in-Time.is at c.requires in (omega arith, omega (arith, r.1, ap length time_spelled))
 
-pub returns-then-x-eq0 : goal.returns-then-x-eq0
-returns-then-x-eq0 c = lays_as c.put.ensures (time_spelled _ c.if-x-eq0.true)
+pub returns-in-Time : goal.returns-in-Time
+returns-in-Time c = rw c.in-Time.is (lays_as c.put.ensures time_spelled)
 
 pub put-end-requires : goal.put-end-requires
-put-end-requires c = (search rules, omega (arith, jump_length _ c.if-x-eq0.false))
+put-end-requires c = let r = rw c.in-Jump.is at c.requires in (omega arith, omega (arith, r.1, jump_length c.in-Jump.e))
 
-pub put-requires-2 : goal.put-requires-2
-put-requires-2 c = (search rules, omega (arith, c.put-end.ensures.end, jump_length _ c.if-x-eq0.false))
+pub put-requires-in-Jump : goal.put-requires-in-Jump
+put-requires-in-Jump c =
+    let r = rw c.in-Jump.is at c.requires in (omega (arith, r.0), omega (arith, c.put-end.ensures.end, r.1, jump_length c.in-Jump.e))
 
-pub returns : goal.returns
-returns c = lays_as (lays_then c.put-end.ensures c.put-2.ensures) (jump_spelled _ c.if-x-eq0.false)
+pub returns-in-Jump : goal.returns-in-Jump
+returns-in-Jump c = rw c.in-Jump.is (lays_as (lays_then c.put-end.ensures c.put-in-Jump.ensures) (jump_spelled c.in-Jump.e))

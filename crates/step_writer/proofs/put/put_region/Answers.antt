@@ -5,17 +5,22 @@ use Rattle.spelling.proofs.Lays.{lays_then, lays_as}
 use Rattle.step_writer.proofs.Written.{key_spelled, key-length}
 use Rattle.step_writer.proofs.put.put_region.Goals as goal
 
-pub put_three-end-requires : goal.put_three-end-requires
-put_three-end-requires c =
-    let k = clocks_of c.args.m c.requires.0 in
-    (k, omega (arith, key-length _ k c.region_of-g.result _ c.region_of-g.ensures.1))
+pub put_numbers-end-requires : goal.put_numbers-end-requires
+put_numbers-end-requires c =
+    let plan = c.args.space.now.plan.now in
+    let g = c.region_of-g in
+    rw c.from-n.ensures (omega (arith, c.requires.1, key-length _ (clocks_of plan.model plan.lawful) g.result _ g.ensures.1))
 
-pub put_three-requires : goal.put_three-requires
-put_three-requires c =
-    let k = clocks_of c.args.m c.requires.0 in
-    (k, omega (arith, c.put_three-end.ensures.end, key-length _ k c.region_of-g.result _ c.region_of-g.ensures.1))
+pub put_numbers-requires : goal.put_numbers-requires
+put_numbers-requires c =
+    let plan = c.args.space.now.plan.now in
+    let g = c.region_of-g in
+    let first = rw c.from-n.ensures at c.put_numbers-end.ensures.end in
+    rw c.from-n.ensures (omega (arith, first, c.requires.1, key-length _ (clocks_of plan.model plan.lawful) g.result _ g.ensures.1))
 
 pub returns : goal.returns
 returns c =
-    lays_as (lays_then c.put_three-end.ensures c.put_three.ensures)
-    (key_spelled _ (clocks_of c.args.m c.requires.0) c.region_of-g.result _ c.region_of-g.ensures.1)
+    let plan = c.args.space.now.plan.now in
+    let g = c.region_of-g in
+    lays_as (lays_then c.put_numbers-end.ensures c.put_numbers.ensures)
+    (rw c.from-n.ensures (key_spelled _ (clocks_of plan.model plan.lawful) g.result _ g.ensures.1))

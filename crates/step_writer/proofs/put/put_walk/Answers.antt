@@ -2,7 +2,6 @@
 use mathlib.Core.Path.{ap}
 use lib.ListN.{length}
 use native.Mathlib.Omega.{arith}
-use borrow.Author.Rules.{rules}
 use Rattle.number.specs.Number.{spell_all}
 use Rattle.replay.specs.Spelling.{label_numbers}
 use Rattle.spelling.proofs.Lays.{lays_as}
@@ -10,29 +9,26 @@ use Rattle.step_writer.proofs.Least.{least_few}
 use Rattle.step_writer.proofs.Written.{walked_none, walked_fits, walked_more, walked_all}
 use Rattle.step_writer.proofs.put.put_walk.Goals as goal
 
-pub loop-i-init : goal.loop-i-init
-loop-i-init c = (search rules, search rules, walked_none _ _ _ _ _)
+pub loop-s-init : goal.loop-s-init
+loop-s-init c = (c.requires.0, walked_none _ _ _ _ _)
 
-pub least_label-requires : goal.least_label-requires
-least_label-requires c = (c.requires.0, c.requires.1, c.loop-i.invariant.1, omega (arith, c.from_word-s.ensures, c.requires.3 c.loop-i.i c.loop-i-test.true))
+pub walk_label-requires : goal.walk_label-requires
+walk_label-requires c =
+    (c.loop-s.invariant.0, omega (arith, c.from-s.ensures, c.requires.1 c.loop-s.s-index c.loop-s-test.true))
 
 pub put_label-end-requires : goal.put_label-end-requires
 put_label-end-requires c =
-    let fits = walked_fits _ _ _ _ _ _ _ _ _ c.loop-i.invariant.2 _ c.loop-i-test.true c.from_word-s.ensures in (
-      omega (arith, c.least_label.ensures, least_few c.args.m c.loop-i.p c.from_word-s.result c.requires.0),
-      omega (arith, fits, c.requires.4, ap (λ x. length (spell_all (label_numbers x))) c.least_label.ensures),
+    let fits = walked_fits _ _ _ _ _ _ _ _ _ c.loop-s.invariant.1 _ c.loop-s-test.true c.from-s.ensures in (
+      omega (arith, c.walk_label.ensures, least_few c.args.space.now.plan.now.model c.loop-s.p c.from-s.result c.args.space.now.plan.now.lawful),
+      omega (arith, fits, c.requires.2, ap (λ x. length (spell_all (label_numbers x))) c.walk_label.ensures),
     )
 
-pub loop-i-preserved : goal.loop-i-preserved
-loop-i-preserved c = (
-  omega arith,
-  omega (arith, c.from_word-s.ensures, c.requires.3 c.loop-i.i c.loop-i-test.true),
-  walked_more _ _ _ _ _ _ _ _ _ c.loop-i.invariant.2 _ c.loop-i-test.true c.from_word-s.ensures _ _
-      (lays_as c.put_label-end.ensures (ap (λ x. spell_all (label_numbers x)) c.least_label.ensures)),
+pub loop-s-preserved : goal.loop-s-preserved
+loop-s-preserved c = (
+  omega (arith, c.from-s.ensures, c.requires.1 c.loop-s.s-index c.loop-s-test.true),
+  walked_more _ _ _ _ _ _ _ _ _ c.loop-s.invariant.1 _ c.loop-s-test.true c.from-s.ensures _ _
+      (lays_as c.put_label-end.ensures (ap (λ x. spell_all (label_numbers x)) c.walk_label.ensures)),
 )
 
-pub shape_of-out : goal.shape_of-out
-shape_of-out c = c.loop-i.invariant.2.laid.long
-
 pub returns : goal.returns
-returns c = walked_all _ _ _ _ _ _ _ _ _ c.loop-i.invariant.2 c.loop-i-test.false
+returns c = walked_all _ _ _ _ _ _ _ _ _ c.loop-s.invariant.1 c.loop-s-test.false

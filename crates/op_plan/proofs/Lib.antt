@@ -1,2 +1,0 @@
--- The plan writer's ways.
-pub mod Plans

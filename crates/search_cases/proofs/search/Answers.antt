@@ -1,0 +1,6 @@
+use Rattle.std.proofs.Common.{rules}
+use Rattle.printing.proofs.Writes.{growing}
+use Rattle.search_cases.proofs.search.Goals as goal
+
+pub returns : goal.returns
+returns g c = search (rules, growing)

@@ -1,9 +1,0 @@
--- A test for each way out.
-use borrow.Author.Tests.{eq-eqb, ne_eqb}
-use Rattle.stay_limits.proofs.limit.Goals as goal
-
-pub returns-then-s-eq0 : goal.returns-then-s-eq0
-returns-then-s-eq0 c = simp (eq-eqb _ _ c.if-s-eq0.true)
-
-pub returns : goal.returns
-returns c = simp (ne_eqb _ _ c.if-s-eq0.false)

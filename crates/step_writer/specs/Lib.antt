@@ -1,0 +1,2 @@
+-- A label that is looked for.
+pub mod Least
