@@ -27,7 +27,8 @@ pub fn fewest(distance: &[Word], kind: &[u8], regions: usize) -> Option<usize>
 {
     let mut best = None;
     for p in 0..distance.len() {
-        if kind[p / regions] == 1 {
+        // The distance first: it spares a division for each state that is not marked.
+        if distance[p] != 0 && kind[p / regions] == 1 {
             best = lower_distance(best, distance[p]);
         }
     }
