@@ -31,6 +31,7 @@ pub fn say<W: Write>(to: &mut W, text: &[u8]) -> io::Result<()>
     ensures { Writes (W.contents to.old) (W.contents to.new) result text.now }
 {
     let mut done = 0;
+    // A while: done grows by what a write took.
     while done < text.len() {
         let n = write_some(to, &text[done..])?;
         if n == 0 {

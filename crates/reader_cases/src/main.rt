@@ -89,6 +89,7 @@ fn pieces<W: Write>(to: &mut W, input: &[u8]) -> io::Result<()>
     ensures grows { Grows (W.contents to.old) (W.contents to.new) }
 {
     let mut rest = input;
+    // A while: each piece says itself where the next begins.
     while let Some((&count, after)) = rest.split_first() {
         let (bytes, next) = after.split_at(after.len().min(usize::from(count)));
         show_bytes(to, bytes)?;

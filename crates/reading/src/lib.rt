@@ -34,6 +34,7 @@ pub fn read_full<R: Read>(from: &mut R, buf: &mut [u8]) -> io::Result<usize>
         (ConsumesFront (R.remaining from.old) (R.remaining from.new) buf.new) }
 {
     let mut done = 0;
+    // A while: done grows by what a read gave.
     while done < buf.len() {
         let n = read_some(from, &mut buf[done..])?;
         if n == 0 {
