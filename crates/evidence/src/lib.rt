@@ -72,6 +72,8 @@ fn check_sheet(plan: &Plan, bytes: &[u8], at: usize, sheet: &mut [Word]) -> Resu
     tables::run(&mut check, plan)
 }
 
+// Never put into its caller, so that the list of regions here does not lie beside the tables of a sheet's check.
+#[inline(never)]
 fn check_trail(plan: &Plan, bytes: &[u8], at: usize) -> Result<(), Refusal>
     ensures { refusal_number result ≡ trail_answer plan.now.model bytes.now at }
 {

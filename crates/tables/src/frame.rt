@@ -60,7 +60,9 @@ fn run_in<
     task.run(space, allowed, first, &mut targets, shapes)
 }
 
-// Runs a task with tables of its own: for a small plan the smaller ones, which are sooner made.
+// Runs a task with tables of its own: for a small plan the smaller ones, which are sooner made. It is never put into its caller, whose frame would hold
+// the tables then, also where it refuses before it gets here.
+#[inline(never)]
 pub fn run<T: Task>(task: &mut T, plan: &Plan) -> T::Answer
     requires { T.asks task.old plan.now }
     ensures { T.gives task.old plan.now task.new result }
