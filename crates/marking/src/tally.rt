@@ -27,9 +27,10 @@ pub fn fewest(distance: &[Word], kind: &[u8], regions: usize) -> Option<usize>
 {
     let mut best = None;
     for p in 0..distance.len() {
-        // The distance first: it spares a division for each state that is not marked.
-        if distance[p] != 0 && kind[p / regions] == 1 {
-            best = lower_distance(best, distance[p]);
+        // The distance first: it spares a division for each state that would not be the nearest.
+        let next = lower_distance(best, distance[p]);
+        if next != best && kind[p / regions] == 1 {
+            best = next;
         }
     }
     best
