@@ -72,19 +72,20 @@ unfolding answer
 passed_answer values x r h said bytes lent is = passed_told values x r h ∙ sym (simp (is, ne_eqb (code_of r) 0 (code_ne r)) refl)
 
 module _ (bytes lent : List ℕ) where
-  pub refused_read : (r : Refusal) → numbered (Err r) ≡ read_model bytes → refusal bytes lent ≡ code_of r
+  pub refused_as : (r : Refusal) → code_of r ≡ (read_model bytes).refusal → refusal bytes lent ≡ code_of r
   unfolding refusal
-  refused_read r e =
-      let f : (read_model bytes).refusal ≡ code_of r = ap (λ (x : Reading). x.refusal) (sym e) in
-      simp (f, ne_eqb (code_of r) 0 (code_ne r)) refl
+  refused_as r e = simp (sym e, ne_eqb (code_of r) 0 (code_ne r)) refl
+
+  pub refused_read : (r : Refusal) → numbered (Err r) ≡ read_model bytes → refusal bytes lent ≡ code_of r
+  refused_read r e = refused_as r (ap (λ (x : Reading). x.refusal) e)
+
+  pub measured_as : 0 ≡ (read_model bytes).refusal → (s : ℕ) → s ≡ states_of bytes → refusal bytes lent ≡ cond (enough s lent) 0 8
+  unfolding refusal
+  measured_as e s is = simp (sym e, sym is) refl
 
   pub measured : (p : Plan) → numbered (Ok p) ≡ read_model bytes → (s : ℕ) → s ≡ states p.model
       → refusal bytes lent ≡ cond (enough s lent) 0 8
-  unfolding refusal
-  measured p e s is =
-      let f : (read_model bytes).refusal ≡ 0 = ap (λ (x : Reading). x.refusal) (sym e) in
-      let n : states (read_model bytes).model ≡ s = ap (λ (x : Reading). states x.model) (sym e) ∙ sym is in
-      simp (f, n) refl
+  measured p e s is = measured_as (ap (λ (x : Reading). x.refusal) e) s (is ∙ ap (λ (x : Reading). states x.model) e)
 
 -- ---- what is left of four slices
 

@@ -6,6 +6,7 @@ mod operation;
 
 ghost use Rattle.std.specs.Prelude.{◌≡◌, [], ◌∷◌, length, IfOk};
 ghost use Rattle.limits.specs.Refusal.{refusal_number};
+ghost use Rattle.plan_reader.specs.Accept.{read_model};
 ghost use Rattle.call.specs.Admitted.{Admitted};
 ghost use Rattle.call.specs.Call.{enough, refusal};
 ghost use Rattle.call.specs.Joint.{disjoint_for};
@@ -31,15 +32,24 @@ fn is_enough(s: usize, s1: usize, s2: usize, s3: usize, s4: usize) -> bool
     (s <= s1) & ((s <= s2) & ((s <= s3) & (s <= s4)))
 }
 
-// The plan that the bytes spell, if it is accepted and four slices of these lengths are long enough for it; or the refusal, 1 to 8.
-pub fn admit(bytes: &[u8], s1: usize, s2: usize, s3: usize, s4: usize) -> Result<Admission, Refusal>
-    ensures refused { refusal_number result ≡ refusal bytes.now (s1 ∷ s2 ∷ s3 ∷ s4 ∷ []) }
+// The plan that the bytes spell, if it is accepted, and S, whatever is lent; or the refusal, 1 to 7.
+pub fn read(bytes: &[u8]) -> Result<Admission, Refusal>
+    ensures refused { refusal_number result ≡ (read_model bytes.now).refusal }
     ensures admitted { IfOk result (Admitted bytes.now) }
 {
     let plan = plan_reader::read_model(bytes)?;
     let states = graph::state_count(&plan);
-    if is_enough(states, s1, s2, s3, s4) {
-        return Ok(Admission { states, plan });
+    Ok(Admission { states, plan })
+}
+
+// The same, if four slices of these lengths are long enough for it; else refusal 8.
+pub fn admit(bytes: &[u8], s1: usize, s2: usize, s3: usize, s4: usize) -> Result<Admission, Refusal>
+    ensures refused { refusal_number result ≡ refusal bytes.now (s1 ∷ s2 ∷ s3 ∷ s4 ∷ []) }
+    ensures admitted { IfOk result (Admitted bytes.now) }
+{
+    let a = read(bytes)?;
+    if is_enough(a.states, s1, s2, s3, s4) {
+        return Ok(a);
     }
     Err(Refusal::ScratchShort)
 }

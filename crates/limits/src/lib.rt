@@ -3,7 +3,9 @@
 #![tactic(auto)]
 
 mod agree;
+pub mod cast;
 pub mod refusal;
+pub mod zero;
 
 // What holds a state number: elements of scratch, distances, sheet numbers, places in a list of steps.
 pub type Word = u16;

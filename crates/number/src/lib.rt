@@ -3,7 +3,7 @@
 
 ghost use Rattle.std.specs.Prelude.{◌≡◌, ◌+◌, ◌<◌, ◌≤◌, ◌^◌, length};
 ghost use Rattle.std.proofs.lemmas.List.Edits.{sets};
-ghost use Rattle.number.specs.Number.{numbered, is_refused, read_number, spell};
+ghost use Rattle.number.specs.Number.{numbered, number_refusal, is_refused, read_number, spell};
 ghost use Rattle.number.specs.Shortest.{told, read_spelled};
 
 use limits::refusal::Refusal;
@@ -34,6 +34,16 @@ impl Number {
             Number::Value(_, _) => unreachable!(),
             Number::Refused(r) => r,
         }
+    }
+}
+
+// The number of a refusal, 0 where there is a value.
+pub fn refusal_of(n: Number) -> u8
+    ensures { result ≡ number_refusal (numbered n) }
+{
+    match n {
+        Number::Value(_, _) => 0,
+        Number::Refused(r) => r.code(),
     }
 }
 

@@ -4,8 +4,10 @@
 ghost use Rattle.std.specs.Prelude.{◌≡◌};
 ghost use Rattle.theory.specs.WithoutTouch.{with_touch};
 ghost use Rattle.graph.specs.Plan.{system_of_model};
+ghost use Rattle.graph.specs.States.{states};
 ghost use Rattle.marking.specs.Tables.{Distances};
 ghost use Rattle.call.specs.Scratch.{lengths, ScratchLeft};
+ghost use Rattle.call.specs.Lent.{Just, AllZero, SameLoans};
 ghost use Rattle.op_judge.specs.Judge.{verdict, judged, judgement_answer, judgement_values};
 
 use call::{Operation, Scratch};
@@ -32,6 +34,19 @@ fn verdict_of(plan: &Plan, touch: bool, distances: &[Word]) -> Judgement
         Some(steps) => Judgement::Unsafe(s, steps),
         None => Judgement::Safe(s, marking::count_marked(distances)),
     }
+}
+
+// With slices of just S numbers, which are zero afterwards: the verdict of the system with touch steps or without, whatever resets the plan has.
+pub fn judge_model(plan: &Plan, touch: bool, s: &mut Scratch) -> Judgement
+    requires { Just (states plan.now.model) s.old }
+    ensures result_value { judgement_values result ≡ verdict (with_touch touch (system_of_model plan.now.model)) }
+    ensures zeroed { AllZero s.old s.new }
+    ensures same { SameLoans s.old s.new }
+{
+    survey::survey(plan, touch, s.first, s.second, s.third, s.fourth);
+    let found = verdict_of(plan, touch, s.second);
+    s.clear();
+    found
 }
 
 // The judge with touch steps or, for plans with a joint reset, without.

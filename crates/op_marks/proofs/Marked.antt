@@ -27,6 +27,7 @@ use Rattle.std.specs.Prelude.{Result, IsErrAnd}
 use Rattle.limits.specs.declared.refusal.Refusal.{Refusal}
 use Rattle.limits.specs.declared.refusal.Refusal.TheVariants.{OutputShort}
 use Rattle.limits.specs.Refusal.{code_of}
+use Rattle.number.specs.Answer.{answer}
 use Rattle.op_marks.specs.Marks.{short, marks_refusal, marked, marks_of, marks_in, output, marking_values, marking_answer, marking_refusal, marking_says, marking_writes}
 
 -- with touch steps or without, a state has the same number
@@ -48,6 +49,35 @@ module _ (Y : System) (L : Laws Y) where
   marks_written out far D e h =
       is_table out Y.size (λ p. bit (marks Y p)) e
       (λ p b. rw (h p b, D.is p b, mark-marks Y L p) refl)
+
+-- ---- whatever resets the plan has
+
+module _ (m : Model) (k : ℕ) where
+  pub answer_short : k < states m → record { number = 9; values = [] } ≡ answer (short k m) (states m ∷ [])
+  unfolding answer
+  answer_short b = simp (lt-ltb k (states m) b) refl
+
+  pub answer_marked : (s : ℕ) → s ≡ states m → s ≤ k → record { number = 0; values = s ∷ [] } ≡ answer (short k m) (states m ∷ [])
+  unfolding answer
+  answer_marked s e b =
+      let c : states m ≤ k = omega arith in
+      simp (le-ltb k (states m) c) (ap (λ (n : ℕ). record { number = 0; values = n ∷ [] }) e)
+
+module _ (touch : Bool) (m : Model) (out : List ℕ) where
+  pub short_kept : length out < states m → out ≡ marks_in (with_touch touch (system_of_model m)) out
+  unfolding marks_in
+  short_kept b =
+      let c : length out < (with_touch touch (system_of_model m)).size = omega (arith, touch_size touch m) in
+      simp (lt-ltb (length out) (with_touch touch (system_of_model m)).size c) refl
+
+  pub marked_in : (s : ℕ) (xs : List ℕ) → s ≡ states m → s ≤ length out → xs ≡ marks_of (with_touch touch (system_of_model m))
+      → xs ++ drop s out ≡ marks_in (with_touch touch (system_of_model m)) out
+  unfolding marks_in
+  marked_in s xs e b f =
+      let Y = with_touch touch (system_of_model m) in
+      let g : s ≡ Y.size = e ∙ sym (touch_size touch m) in
+      let c : Y.size ≤ length out = omega arith in
+      simp (le-ltb (length out) Y.size c) (rw (g, f) refl)
 
 -- ---- past number 8
 

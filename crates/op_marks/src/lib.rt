@@ -1,13 +1,15 @@
 // The marks: a byte for each state of a plan.
 #![tactic(auto)]
 
-ghost use Rattle.std.specs.Prelude.{◌≡◌, length};
+ghost use Rattle.std.specs.Prelude.{◌≡◌, [], ◌∷◌, length};
 ghost use Rattle.theory.specs.WithoutTouch.{with_touch};
 ghost use Rattle.graph.specs.Plan.{system_of_model};
 ghost use Rattle.graph.specs.States.{states};
 ghost use Rattle.marking.specs.Tables.{Distances};
+ghost use Rattle.number.specs.Answer.{answer};
 ghost use Rattle.call.specs.Scratch.{lengths, ScratchLeft};
-ghost use Rattle.op_marks.specs.Marks.{marked, marks_of, output, marking_answer};
+ghost use Rattle.call.specs.Lent.{Just, AllZero, SameLoans};
+ghost use Rattle.op_marks.specs.Marks.{short, marks_in, marked, marks_of, output, marking_answer};
 
 use call::{Operation, Scratch};
 use limits::Word;
@@ -22,6 +24,31 @@ fn put_marks(plan: &Plan, touch: bool, distances: &[Word], out: &mut [u8])
     for p in 0..distances.len() {
         out[p] = u8::from(0 < distances[p]);
     }
+}
+
+// With slices of just S numbers, which are zero afterwards: the marks of the system with touch steps or without, whatever resets the plan has; 9 where
+// the output is too short.
+pub fn mark_into(
+    plan: &Plan,
+    touch: bool,
+    s: &mut Scratch,
+    out: &mut [u8],
+) -> Result<usize, Refusal>
+    requires { Just (states plan.now.model) s.old }
+    ensures result_value { marking_answer result ≡ answer (short (length out.old) plan.now.model) (states plan.now.model ∷ []) }
+    ensures out_after { out.new ≡ marks_in (with_touch touch (system_of_model plan.now.model)) out.old }
+    ensures zeroed { AllZero s.old s.new }
+    ensures same { SameLoans s.old s.new }
+{
+    let many = s.first.len();
+    if out.len() < many {
+        s.clear();
+        return Err(Refusal::OutputShort);
+    }
+    survey::survey(plan, touch, s.first, s.second, s.third, s.fourth);
+    put_marks(plan, touch, s.second, &mut out[..many]);
+    s.clear();
+    Ok(many)
 }
 
 // The marks with touch steps or, for plans with a joint reset, without.

@@ -2,8 +2,11 @@
 #![tactic(auto)]
 
 ghost use Rattle.std.specs.Prelude.{◌≡◌, length};
-ghost use Rattle.evidence_writer.specs.Written.{numbered};
+ghost use Rattle.graph.specs.States.{states};
+ghost use Rattle.spelling.specs.Lays.{filled};
+ghost use Rattle.evidence_writer.specs.Written.{numbered, evidence_by, written_by};
 ghost use Rattle.call.specs.Scratch.{lengths, ScratchLeft};
+ghost use Rattle.call.specs.Lent.{Just, AllZero, SameLoans};
 ghost use Rattle.op_write.specs.Write.{write_answer, write_output, written_answer};
 
 use call::{Operation, Scratch};
@@ -11,6 +14,23 @@ pub use evidence_writer::Written;
 use limits::Word;
 use limits::refusal::Refusal;
 use model::Plan;
+
+// With slices of just S numbers, which are zero afterwards: the evidence of the system with touch steps or without, whatever resets the plan has.
+pub fn write_model(
+    plan: &Plan,
+    touch: bool,
+    s: &mut Scratch,
+    out: &mut [u8],
+) -> Result<Written, Refusal>
+    requires { Just (states plan.now.model) s.old }
+    ensures value { (numbered result ≡ written_by touch plan.now.model (length out.old)) × (out.new ≡ filled (evidence_by touch plan.now.model) out.old) }
+    ensures zeroed { AllZero s.old s.new }
+    ensures same { SameLoans s.old s.new }
+{
+    let found = evidence_writer::write(plan, touch, s.first, s.second, s.third, s.fourth, out);
+    s.clear();
+    found
+}
 
 // The evidence with touch steps or, for plans with a joint reset, without.
 #[derive(Clone, Copy)]

@@ -7,7 +7,7 @@ use Prim.Native.Nat.{ℕ, ◌+◌, ◌-◌, ◌≤◌, ◌<◌}
 use native.Mathlib.Omega.{arith}
 use native.Mathlib.Nat.{le_antisymm}
 use native.Mathlib.Decide.{dec_lt}
-use lib.ListN.{length, get_or}
+use lib.ListN.{length, get_or, set}
 use lib.Dec.{ltb}
 use borrow.Author.Tests.{le-ltb}
 use Rattle.limits.specs.Limits.{max_states}
@@ -18,7 +18,7 @@ use Rattle.theory.proofs.Levels.{mark_in, mark_out, upto_first, upto_at, upto_ne
 use Rattle.search.specs.Queue.{Queued, ByLevel, TakesAll, LeadsFrom}
 use Rattle.search.specs.Rounds.{Agrees, Searched}
 use Rattle.search.proofs.Count.{count_same, count_none}
-use Rattle.search.proofs.Queue.{takes_kept}
+use Rattle.search.proofs.Queue.{takes_one, takes_kept}
 
 -- ---- the first round
 
@@ -34,6 +34,12 @@ module _ (level queue : List ℕ) (zero : (p : ℕ) → get_or level p 0 ≡ 0) 
     many = count_same (length level) (λ p. ltb 0 (get_or level p 0)) (λ _. false) (λ p l. le-ltb 0 (get_or level p 0) (omega (arith, zero p)))
         ∙ count_none (length level);
   }
+
+-- the start taken in by hand
+module _ (level queue : List ℕ) (start : ℕ) (zero : (p : ℕ) → get_or level p 0 ≡ 0) (limit : length level ≤ max_states)
+    (same : length queue ≡ length level) (b : start < length level) where
+  pub start_taken : TakesAll 0 (λ p. p ≡ start) level (set level start 1) queue (set queue 0 start) 0 1
+  start_taken = takes_one (fits_none level queue zero limit same) 0 start b (zero start)
 
 -- the start is taken in: the first place of the queue, alone at level 1
 module _ (Lead : ℕ → ℕ → Type 0) {start : ℕ} {level level' queue queue' : List ℕ} {n : ℕ} (zero : (p : ℕ) → get_or level p 0 ≡ 0)

@@ -8,6 +8,6 @@ use Rattle.search.proofs.Scan.{Partly}
 use Rattle.search.proofs.least.least_listed.Given as goal
 
 abbrev pub invariant-loop-t : goal.invariant-loop-t
-invariant-loop-t l = IfSome l.low (λ b. b < length l.level)
+invariant-loop-t l = (IfSome l.fn.best (λ b. b < length l.level) → IfSome l.low (λ b. b < length l.level))
     × Partly (At l.level l.y (InList l.row l.base 0 (length l.row))) (At l.level l.y (InList l.row l.base l.t-index (length l.row)))
     (unwrap_or l.fn.best (length l.level)) (unwrap_or l.low (length l.level))

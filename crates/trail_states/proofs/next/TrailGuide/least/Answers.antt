@@ -8,7 +8,7 @@ use Rattle.trail_states.proofs.next.TrailGuide.least.Goals as goal
 pub least_listed-face-requires : goal.least_listed-face-requires
 least_listed-face-requires c =
     let T = c.requires.2.tables in
-    record { best = c.least-step.ensures.below; states = rw c.faces.ensures (λ i h. omega (arith, c.requires.1, faces_below T c.args.p c.requires.0 i h)) }
+    rw c.faces.ensures (λ i h. omega (arith, c.requires.1, faces_below T c.args.p c.requires.0 i h))
 
 pub returns-then-ways : goal.returns-then-ways
 returns-then-ways c =
@@ -22,5 +22,5 @@ returns c =
     let B = faces_least T c.args.p (rw c.faces.ensures at c.least_listed-face.ensures.is) in
     record {
       is = leads_least T c.args.p c.least-step.ensures.is B (least_kept (λ q t. absurd (touch_none T c.args.p c.if-ways.false q t.is)));
-      below = c.least_listed-face.ensures.below;
+      below = c.least_listed-face.ensures.below c.least-step.ensures.below;
     }
